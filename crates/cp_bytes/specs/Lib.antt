@@ -1,0 +1,4 @@
+pub mod Fields
+pub mod Cursor
+pub mod Reading
+pub mod Hashes

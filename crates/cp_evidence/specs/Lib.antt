@@ -1,0 +1,4 @@
+pub mod Evidence
+pub mod Conditions
+pub mod View
+pub mod Laws

@@ -1,0 +1,2 @@
+pub mod Guilt
+pub mod Signed

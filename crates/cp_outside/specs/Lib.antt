@@ -1,0 +1,9 @@
+pub mod Causes
+pub mod Doors
+pub mod Entries
+pub mod FileLogs
+pub mod Folders
+pub mod Forms
+pub mod MemFolders
+pub mod Schedules
+pub mod WholeFiles

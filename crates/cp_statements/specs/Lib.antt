@@ -1,0 +1,3 @@
+pub mod Envelope
+pub mod Reading
+pub mod View

@@ -1,0 +1,3 @@
+pub mod Contents
+pub mod InputLemmas
+pub mod Pieces

@@ -1,0 +1,26 @@
+-- What reading an input file gives.
+use Rattle.std.specs.Prelude.{ℕ, ◌≡◌, ◌⊎◌, ◌≤◌, ◌<◌, Bool, List, length, Option, Result, Ok, Err, IsTrue}
+use Rattle.std.specs.Global.{Vec}
+use Rattle.lms_ots.specs.declared.ots_type.OtsType.{OtsType}
+use Rattle.lms_tree.specs.declared.height.Height.{Height}
+use Rattle.lms_tree.specs.Secret.{public_of}
+use Rattle.cp_tool.specs.Endings.{short_seed, no_memory}
+use Rattle.cp_tool.specs.Runs.{input_of, Stops, secret_in}
+use Rattle.cp_tool.specs.View.{ending_view}
+use Rattle.cp_tool.specs.declared.ending.Ending.{Ending}
+
+abbrev pub GivesInput : Option (List ℕ) → List ℕ → ℕ → ℕ → ℕ → Result (Vec ℕ) Ending → Type 0
+GivesInput content name limit before now (Ok bytes) = input_of content name limit ≡ Ok bytes.items
+GivesInput content name limit before now (Err ending) = (input_of content name limit ≡ Err (ending_view ending)) ⊎ Stops before now (ending_view ending)
+
+-- some content was read, which is the file's where the folder tells its files
+pub record ReadsInput (tells : Bool) (file : Option (List ℕ)) (name : List ℕ) (limit before now : ℕ) (result : Result (Vec ℕ) Ending) : Type 0 where
+  pub content : Option (List ℕ)
+  pub told : IsTrue tells → content ≡ file
+  pub gives : GivesInput content name limit before now result
+  pub later : before ≤ now
+
+-- what the bytes of a seed file make: the public key, or a refusal
+abbrev pub MakesKey : Height → OtsType → List ℕ → Result (List ℕ) Ending → Type 0
+MakesKey height ots bytes (Ok key) = (48 ≤ length bytes) × (key ≡ public_of (secret_in height ots bytes))
+MakesKey height ots bytes (Err ending) = ((length bytes < 48) × (ending_view ending ≡ short_seed)) ⊎ (ending_view ending ≡ no_memory)

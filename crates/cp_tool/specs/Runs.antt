@@ -1,0 +1,112 @@
+-- How each command ends, over the files of its folder (this project's own).
+use Rattle.std.specs.Prelude.{ℕ, ◌≡◌, ◌≢◌, ◌⊎◌, Bool, List, length, take, drop, Option, Some, None, Result, Ok, Err, nat_lt, if◌then◌else◌, IsTrue}
+use Rattle.cp_bytes.specs.Fields.{◌>>=◌}
+use Rattle.cp_outside.specs.Causes.{Rose}
+use Rattle.lms_ots.specs.declared.ots_type.OtsType.{OtsType}
+use Rattle.lms_tree.specs.declared.height.Height.{Height}
+use Rattle.lms_tree.specs.PublicKey.{key_reads}
+use Rattle.lms_tree.specs.Verifying.{verifies}
+use Rattle.lms_tree.specs.Secret.{Secret, public_of}
+use Rattle.cp_judge.specs.Judging.{judgement_of}
+use Rattle.cp_tool.specs.Commands.{Command}
+use Rattle.cp_tool.specs.Commands.Command.{Judge, Verify, Keygen}
+use Rattle.cp_tool.specs.Endings.{Outcome, usage, missing, too_long, short_seed, bad_key, judged, valid, invalid, made, fault, no_memory}
+
+-- a folder, as its contract sees it
+pub record Files : Type 0 where
+  pub tells : Bool
+  pub file : List ℕ → Option (List ℕ)
+  pub faults : ℕ
+
+-- the bytes of an input file of this name and limit, or how the command ends without them
+abbrev pub input_of : Option (List ℕ) → List ℕ → ℕ → Result (List ℕ) Outcome
+input_of None name limit = Err (missing name)
+input_of (Some bytes) name limit = if nat_lt limit (length bytes) then Err (too_long limit) else Ok bytes
+
+-- a step that ends the command, or its last step
+abbrev pub ending_of : Result Outcome Outcome → Outcome
+ending_of (Ok ending) = ending
+ending_of (Err ending) = ending
+
+-- a call of the folder failed, or memory was wanted
+abbrev pub Stops : ℕ → ℕ → Outcome → Type 0
+Stops before now ending = ((ending ≡ fault) × Rose before now) ⊎ (ending ≡ no_memory)
+
+-- All files stay as they were, but for those of the name, if there is one.
+abbrev pub KeepsAll : Files → Files → Type 0
+KeepsAll old new = (name : List ℕ) → new.file name ≡ old.file name
+
+abbrev pub KeepsOthers : List ℕ → Files → Files → Type 0
+KeepsOthers out old new = (name : List ℕ) → name ≢ out → new.file name ≡ old.file name
+
+-- what the folder gave as a file is the file, where it tells its files
+abbrev pub IsFile : Files → List ℕ → Option (List ℕ) → Type 0
+IsFile files name content = IsTrue files.tells → content ≡ files.file name
+
+-- ---- judge: a key of 56 bytes, evidence of at most 512 MiB
+
+abbrev pub judge_ending : Option (List ℕ) → List ℕ → Option (List ℕ) → List ℕ → Outcome
+judge_ending key_file key evidence_file evidence = ending_of (do
+  key_bytes ← input_of key_file key 56
+  evidence_bytes ← input_of evidence_file evidence 536870912
+  Ok (judged (judgement_of key_bytes evidence_bytes)))
+
+pub record JudgeEnds (key evidence : List ℕ) (old new : Files) (ending : Outcome) : Type 0 where
+  pub key_file : Option (List ℕ)
+  pub evidence_file : Option (List ℕ)
+  pub key_is : IsFile old key key_file
+  pub evidence_is : IsFile old evidence evidence_file
+  pub ends : (ending ≡ judge_ending key_file key evidence_file evidence) ⊎ Stops old.faults new.faults ending
+  pub kept : KeepsAll old new
+
+-- ---- verify: a key of 56 bytes, a text of at most 1 MiB, a signature of at most 16 KiB
+
+abbrev pub verified : List ℕ → List ℕ → List ℕ → Outcome
+verified key text signature = if key_reads key then (if verifies key text signature then valid else invalid) else bad_key
+
+abbrev pub verify_ending : Option (List ℕ) → List ℕ → Option (List ℕ) → List ℕ → Option (List ℕ) → List ℕ → Outcome
+verify_ending key_file key text_file text signature_file signature = ending_of (do
+  key_bytes ← input_of key_file key 56
+  text_bytes ← input_of text_file text 1048576
+  signature_bytes ← input_of signature_file signature 16384
+  Ok (verified key_bytes text_bytes signature_bytes))
+
+pub record VerifyEnds (key text signature : List ℕ) (old new : Files) (ending : Outcome) : Type 0 where
+  pub key_file : Option (List ℕ)
+  pub text_file : Option (List ℕ)
+  pub signature_file : Option (List ℕ)
+  pub key_is : IsFile old key key_file
+  pub text_is : IsFile old text text_file
+  pub signature_is : IsFile old signature signature_file
+  pub ends : (ending ≡ verify_ending key_file key text_file text signature_file signature) ⊎ Stops old.faults new.faults ending
+  pub kept : KeepsAll old new
+
+-- ---- keygen: a seed of 48 bytes, SEED and then I
+
+abbrev pub secret_in : Height → OtsType → List ℕ → Secret
+secret_in height ots bytes = record { height = height; ots = ots; id = take 16 (drop 32 bytes); seed = take 32 bytes }
+
+-- the public key's bytes
+abbrev pub key_made : Option (List ℕ) → List ℕ → Height → OtsType → Result (List ℕ) Outcome
+key_made seed_file seed height ots = do
+  bytes ← input_of seed_file seed 48
+  if nat_lt (length bytes) 48 then Err short_seed else Ok (public_of (secret_in height ots bytes))
+
+-- the key was written and is printed, or an input was refused and nothing was written
+abbrev pub KeyEnds : Result (List ℕ) Outcome → List ℕ → Files → Files → Outcome → Type 0
+KeyEnds (Ok key) out old new ending = (ending ≡ made key) × (IsTrue old.tells → new.file out ≡ Some key)
+KeyEnds (Err refusal) out old new ending = (ending ≡ refusal) × KeepsAll old new
+
+pub record KeygenEnds (seed : List ℕ) (height : Height) (ots : OtsType) (out : List ℕ) (old new : Files) (ending : Outcome) : Type 0 where
+  pub seed_file : Option (List ℕ)
+  pub seed_is : IsFile old seed seed_file
+  pub ends : KeyEnds (key_made seed_file seed height ots) out old new ending ⊎ Stops old.faults new.faults ending
+  pub others : KeepsOthers out old new
+
+-- ---- all commands
+
+abbrev pub RunEnds : Option Command → Files → Files → Outcome → Type 0
+RunEnds None old new ending = (ending ≡ usage) × KeepsAll old new
+RunEnds (Some (Judge key evidence)) old new ending = JudgeEnds key evidence old new ending
+RunEnds (Some (Verify key text signature)) old new ending = VerifyEnds key text signature old new ending
+RunEnds (Some (Keygen seed height ots out)) old new ending = KeygenEnds seed height ots out old new ending

@@ -1,0 +1,37 @@
+//! The command `judge`.
+ghost use Rattle.cp_tool.specs.Runs.{JudgeEnds, Files};
+ghost use Rattle.cp_tool.specs.View.{ending_view};
+
+use crate::ending::Ending;
+use crate::inputs::input;
+use cp_judge::{Judgement, judge};
+use cp_outside::Folder;
+use std::alloc::Global;
+
+/// The most bytes of a key file.
+pub(crate) const KEY_LIMIT: u64 = 56;
+
+/// The most bytes of an evidence file: 512 MiB.
+const EVIDENCE_LIMIT: u64 = 536_870_912;
+
+// Whether the evidence convicts the store of the key.
+pub(crate) fn run_judge<'a, F: Folder>(
+    alloc: Global,
+    files: &mut F,
+    key: &'a str,
+    evidence: &'a str,
+) -> Ending<'a>
+    ensures { JudgeEnds key.entry.now evidence.entry.now
+        (record { tells = F.tells files.old; file = F.file files.old; faults = F.faults files.old })
+        (record { tells = F.tells files.new; file = F.file files.new; faults = F.faults files.new }) (ending_view result) }
+{
+    let key = match input(alloc, files, key, KEY_LIMIT) {
+        Ok(key) => key,
+        Err(ending) => return ending,
+    };
+    let evidence = match input(alloc, files, evidence, EVIDENCE_LIMIT) {
+        Ok(evidence) => evidence,
+        Err(ending) => return ending,
+    };
+    Ending::Judged(judge(key.as_slice(), evidence.as_slice()))
+}

@@ -1,0 +1,99 @@
+//! The command `keygen`.
+ghost use Rattle.std.specs.Prelude.{◌≡◌, ◌+◌, ◌<◌, ◌≤◌, ℕ, List, take, drop, length};
+ghost use Rattle.lms_tree.specs.Secret.{public_of};
+ghost use Rattle.cp_tool.specs.Inputs.{MakesKey};
+ghost use Rattle.cp_tool.specs.Runs.{KeygenEnds, Files, secret_in};
+ghost use Rattle.cp_tool.specs.View.{ending_view};
+
+use crate::ending::Ending;
+use crate::inputs::input;
+use cp_outside::Folder;
+use lms_ots::OtsType;
+use lms_tree::{Height, PrivateKey};
+use std::alloc::Global;
+use std::thread::{Threads, available_parallelism};
+
+/// The bytes of a seed file: SEED of 32 bytes and I of 16.
+const SEED_LENGTH: u64 = 48;
+
+/// The most threads that make a key.
+const MOST_WORKERS: usize = 64;
+
+/// How many threads make a key where std doesn't tell how many processors there are.
+const USUAL_WORKERS: usize = 4;
+
+// As many threads as there are processors.
+fn workers<R: Threads>(rt: &R) -> usize
+    ensures { 0 < result }
+{
+    match available_parallelism(rt) {
+        Ok(count) => count.get().min(MOST_WORKERS),
+        Err(_) => USUAL_WORKERS,
+    }
+}
+
+// The part of a seed file from `at` on.
+fn part<const N: usize>(bytes: &[u8], at: usize) -> [u8; N]
+    requires { at + N ≤ length bytes.now }
+    ensures { result ≡ take N (drop at bytes.now) }
+{
+    let mut out = [0u8; N];
+    out.copy_from_slice(&bytes[at..at + N]);
+    out
+}
+
+// The public key of the seed file's bytes.
+fn public_key<'a, R: Threads + Sync>(
+    rt: &R,
+    alloc: Global,
+    seed: &[u8],
+    height: Height,
+    ots: OtsType,
+) -> Result<[u8; 56], Ending<'a>>
+    requires { length seed.now ≤ 48 }
+    ensures { MakesKey height ots seed.now result }
+{
+    if seed.len() < SEED_LENGTH as usize {
+        return Err(Ending::ShortSeed);
+    }
+    match PrivateKey::make_by(
+        rt,
+        alloc,
+        workers(rt),
+        part::<32>(seed, 0),
+        part::<16>(seed, 32),
+        height,
+        ots,
+    ) {
+        Ok(key) => Ok(key.public().bytes()),
+        Err(_) => Err(Ending::NoMemory),
+    }
+}
+
+// Writes the public key of the seed file.
+pub(crate) fn run_keygen<'a, R: Threads + Sync, F: Folder>(
+    rt: &R,
+    alloc: Global,
+    files: &mut F,
+    seed: &'a str,
+    height: Height,
+    ots: OtsType,
+    out: &'a str,
+) -> Ending<'a>
+    ensures { KeygenEnds seed.entry.now height ots out.entry.now
+        (record { tells = F.tells files.old; file = F.file files.old; faults = F.faults files.old })
+        (record { tells = F.tells files.new; file = F.file files.new; faults = F.faults files.new }) (ending_view result) }
+{
+    let seed = match input(alloc, files, seed, SEED_LENGTH) {
+        Ok(seed) => seed,
+        Err(ending) => return ending,
+    };
+    let key = match public_key(rt, alloc, seed.as_slice(), height, ots) {
+        Ok(key) => key,
+        Err(ending) => return ending,
+    };
+    match files.write(out, &key) {
+        Ok(()) => Ending::Key(key),
+        Err(_) => Ending::Fault,
+    }
+}

@@ -1,0 +1,76 @@
+//! The commands of the program, over any folder and sink.
+ghost use Rattle.std.specs.Prelude.{◌≡◌, ◌⊎◌, ◌↔◌, ◌≤◌, ℕ, List, Some, None, map, string_bytes, length, IsTrue};
+ghost use Rattle.cp_outside.specs.Causes.{Rose};
+ghost use Rattle.cp_evidence.specs.Conditions.{Convicts};
+ghost use Rattle.cp_tool.specs.Commands.{command_of};
+ghost use Rattle.cp_tool.specs.Commands.Command.{Judge};
+ghost use Rattle.cp_tool.specs.Endings.{Outcome};
+ghost use Rattle.cp_tool.specs.Reports.{Reports};
+ghost use Rattle.cp_tool.specs.Runs.{RunEnds, Files};
+ghost use Rattle.cp_tool.specs.View.{ending_view, command_view};
+
+use crate::command::Command;
+use crate::ending::Ending;
+use crate::judging::run_judge;
+use crate::keygen::run_keygen;
+use crate::printing::report;
+use crate::verifying::run_verify;
+use cp_outside::{Folder, Sink};
+use std::alloc::Global;
+use std::thread::Threads;
+
+// Does what the words say, up to the printed line.
+fn done<'a, R: Threads + Sync, F: Folder>(
+    rt: &R,
+    alloc: Global,
+    words: &'a [String],
+    files: &mut F,
+) -> Ending<'a>
+    ensures { RunEnds (command_of (map string_bytes words.entry.now))
+        (record { tells = F.tells files.old; file = F.file files.old; faults = F.faults files.old })
+        (record { tells = F.tells files.new; file = F.file files.new; faults = F.faults files.new }) (ending_view result) }
+{
+    match Command::read(words) {
+        None => Ending::Usage,
+        Some(Command::Judge { key, evidence }) => run_judge(alloc, files, key, evidence),
+        Some(
+            Command::Verify {
+                key,
+                text,
+                signature,
+            },
+        ) => run_verify(alloc, files, key, text, signature),
+        Some(
+            Command::Keygen {
+                seed,
+                height,
+                ots,
+                out,
+            },
+        ) => run_keygen(rt, alloc, files, seed, height, ots, out),
+    }
+}
+
+/// Does what the words after the program's name say: reads the command's files in the folder, writes
+/// what it makes there, prints its line to `out`, and answers its status: 0 done or yes, 1 no, 2 the
+/// words are no command's, 3 a refused input, 4 a fault of the folder or the sink, 5 want of memory.
+/// Every command returns.
+pub fn run<R: Threads + Sync, F: Folder, S: Sink>(
+    rt: &R,
+    alloc: Global,
+    words: &[String],
+    files: &mut F,
+    out: &mut S,
+) -> u8
+    // How the command ended, its printed line, and its status.
+    ensures ends { (ending : Outcome) × RunEnds (command_of (map string_bytes words.now))
+        (record { tells = F.tells files.old; file = F.file files.old; faults = F.faults files.old })
+        (record { tells = F.tells files.new; file = F.file files.new; faults = F.faults files.new }) ending
+        × Reports (S.held out.old) (S.held out.new) (S.write_faults out.old) (S.write_faults out.new) ending result }
+
+    // 4 comes only where a count rose.
+    ensures fault { result ≡ 4 → Rose (F.faults files.old) (F.faults files.new) ⊎ Rose (S.write_faults out.old) (S.write_faults out.new) }
+{
+    let ending = done(rt, alloc, words, files);
+    report(out, &ending)
+}

@@ -1,0 +1,4 @@
+pub mod Parameters
+pub mod Ots
+pub mod Signing
+pub mod Laws

@@ -1,0 +1,17 @@
+//! LM-OTS one-time signatures over SHA-256 (RFC 8554, section 4): keys, signatures and the candidate
+//! that a verifier computes, for all four widths. No call takes memory.
+#![tactic(auto)]
+
+mod chains;
+mod digits;
+mod ots_type;
+mod signing;
+#[cfg(test)]
+mod tests;
+mod verifying;
+
+pub use chains::tagged;
+pub use digits::{cksm, coef};
+pub use ots_type::OtsType;
+pub use signing::{ots_public, ots_sign, what_is_signed_leads_to_its_key};
+pub use verifying::ots_candidate;

@@ -1,0 +1,10 @@
+pub mod Parameters
+pub mod PublicKey
+pub mod Codes
+pub mod Spelled
+pub mod Tree
+pub mod Verifying
+pub mod Secret
+pub mod Kept
+pub mod Inside
+pub mod Laws
