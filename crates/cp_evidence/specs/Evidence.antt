@@ -1,9 +1,9 @@
 -- Evidence and its bytes (this project's own): "CPEV", the kind as one byte, numbers, and parts to
 -- the end.
-use Rattle.std.specs.Prelude.{ℕ, ◌||◌, ◌==◌, if◌then◌else◌, nat_lt, List, [], ◌∷◌, ◌++◌, length, Result, Ok, Err, codes}
+use Rattle.std.specs.Prelude.{ℕ, ◌||◌, ◌==◌, if◌then◌else◌, nat_lt, List, [], length, Result, Ok, Err, codes}
 use Rattle.cp_bytes.specs.Fields.{◌>>=◌, field_at, ended, at_offset}
 use Rattle.cp_bytes.specs.Fields.Field.{Tag, Byte}
-use Rattle.cp_statements.specs.Envelope.{Envelope, EnvelopeFits, envelope_text, envelope_at}
+use Rattle.cp_statements.specs.Envelope.{Envelope, envelope_at}
 
 pub data Evidence : Type 0 where
   K2 : Envelope → Envelope → Evidence  -- two texts signed under one leaf
@@ -12,8 +12,6 @@ pub data Evidence : Type 0 where
 abbrev pub kind_of : Evidence → ℕ
 kind_of (K2 x y) = 2
 kind_of (Other kind) = kind
-
--- ---- reading
 
 -- the parts of kind 2: two envelopes
 unfoldable pub k2_at : List ℕ → Result (Evidence × List ℕ) ℕ
@@ -34,9 +32,3 @@ evidence_of bytes = at_offset bytes (do
   tag ← field_at (Tag (codes "CPEV")) bytes
   evidence ← kind_at tag.1
   ended evidence)
-
--- ---- writing
-
--- the bytes of kind 2
-unfoldable pub k2_text : Envelope → Envelope → List ℕ
-k2_text x y = codes "CPEV" ++ 2 ∷ [] ++ envelope_text x ++ envelope_text y

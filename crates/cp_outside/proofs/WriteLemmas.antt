@@ -2,7 +2,7 @@
 use Rattle.std.proofs.Common.{◌≡◌, ◌≢◌, ℕ, Bool, true, false, List, [], ◌∷◌, ◌++◌, Option, Some, None, refl, ap, sym, ◌∙◌, cond}
 use Rattle.std.specs.Str.{bytes_eq}
 use Rattle.std.proofs.lemmas.Slice.Eq.{bytes_eq-Decides}
-use Rattle.cp_outside.specs.Forms.{Written, file_after}
+use Rattle.cp_outside.specs.MemFolders.{Written, file_after}
 
 not_true : (b : Bool) → (b ≡ true → ⊥) → b ≡ false
 not_true true h = absurd (h refl)
@@ -28,6 +28,6 @@ pub file_after-others : (writes : List Written) (name content other : List ℕ) 
 file_after-others writes name content other differs =
     file_after-push None writes (record { name = name; content = content }) other
     ∙ ap (λ b. cond b (Some content) (file_after None writes other))
-        (not_true (bytes_eq name other) (λ same. differs (sym ((bytes_eq-Decides name other).0 same))))
+    (not_true (bytes_eq name other) (λ same. differs (sym ((bytes_eq-Decides name other).0 same))))
 
 pub ruleset file_after_write = (file_after-written, file_after-others)

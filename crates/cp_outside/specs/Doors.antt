@@ -1,9 +1,6 @@
 -- What `accept` does to a door's connections (this project's own).
 use Rattle.std.specs.Prelude.{◌≡◌, ℕ, ◌+◌, List, [], ◌∷◌, Option, Some, None, Result, Ok, Err, IfSome}
 use Rattle.std.specs.Option.{option_map}
-use Rattle.cp_outside.specs.Causes.{one_more}
-use Rattle.cp_outside.specs.Forms.{DoorState}
-use Rattle.cp_outside.specs.Schedules.{after_call}
 
 -- The first of the connections to come was handed out and left the list; none is handed out only
 -- where none is to come. In every other case the list stays.
@@ -17,11 +14,3 @@ abbrev pub CountsHandedOut : {C E : Type 0} → ℕ → ℕ → Result (Option C
 CountsHandedOut old new (Ok (Some conn)) = new ≡ old + 1
 CountsHandedOut old new (Ok None) = new ≡ old
 CountsHandedOut old new (Err fault) = new ≡ old
-
--- What `accept` makes of a door in memory.
-abbrev pub Accepts : {C E : Type 0} → DoorState C → DoorState C → Result (Option C) E → Type 0
-Accepts old new (Ok (Some conn)) =
-    (old.coming ≡ conn ∷ new.coming)
-    × (new ≡ record old { coming = new.coming; handed_out = old.handed_out + 1; plan = after_call old.plan })
-Accepts old new (Ok None) = (old.coming ≡ []) × (new ≡ record old { plan = after_call old.plan })
-Accepts old new (Err fault) = new ≡ record old { plan = after_call old.plan; faults = one_more old.faults }

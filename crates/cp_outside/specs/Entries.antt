@@ -1,13 +1,13 @@
 -- The writes that stand in a log (this project's own).
-use Rattle.std.specs.Prelude.{◌≡◌, ℕ, ◌+◌, ◌-◌, ◌*◌, ◌/◌, ◌≤◌, List, take, drop, length, map, All}
-use Rattle.cp_outside.specs.Forms.{Written, size_of_all}
+use Rattle.std.specs.Prelude.{ℕ, ◌-◌, ◌≤◌, List, take, drop, map}
+use Rattle.cp_outside.specs.MemFolders.{Written}
 use Rattle.cp_outside.specs.declared.entries.Entry.{Entry}
 
 -- The write of an entry.
 abbrev pub write_in : List ℕ → Entry → Written
 write_in bytes entry = record {
   name = take (entry.middle - entry.start) (drop entry.start bytes);
-  content = take (entry.end - entry.middle) (drop entry.middle bytes)
+  content = take (entry.end - entry.middle) (drop entry.middle bytes);
 }
 
 abbrev pub content_in : List ℕ → Entry → List ℕ

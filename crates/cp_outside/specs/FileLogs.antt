@@ -1,7 +1,7 @@
 -- What is true of a log (this project's own).
 use Rattle.std.specs.Prelude.{◌≡◌, ◌+◌, ◌*◌, ◌/◌, ◌≤◌, All, vec_len, vec_capacity}
 use Rattle.cp_outside.specs.Entries.{IsWithin, writes_in}
-use Rattle.cp_outside.specs.Forms.{size_of_all}
+use Rattle.cp_outside.specs.MemFolders.{size_of_all}
 use Rattle.cp_outside.specs.declared.file_logs.FileLog.TheInside.{Inside}
 
 -- The entries lie among the bytes, what they fill is within the room, and the room was taken.

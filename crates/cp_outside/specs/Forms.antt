@@ -1,7 +1,8 @@
--- What is known of the forms in memory (this project's own).
-use Rattle.std.specs.Prelude.{ℕ, ◌+◌, List, [], ◌∷◌, length, Option, if◌then◌else◌, Some, sum_by}
-use Rattle.std.specs.Str.{bytes_eq}
-use Rattle.cp_outside.specs.Schedules.{CallPlan}
+-- The forms in memory of sources, sinks, connections and doors, and what their calls do (this
+-- project's own).
+use Rattle.std.specs.Prelude.{◌≡◌, ℕ, ◌+◌, List, [], ◌∷◌, ◌++◌, length, take, min, Option, Some, None, Result, Ok, Err}
+use Rattle.cp_outside.specs.Causes.{one_more}
+use Rattle.cp_outside.specs.Schedules.{CallPlan, after_call}
 
 -- Bytes that are kept in a room.
 pub record Kept : Type 0 where
@@ -39,34 +40,47 @@ pub record DoorState (C : Type 0) : Type 0 where
   pub plan : CallPlan
   pub faults : ℕ
 
--- One write into a folder.
-pub record Written : Type 0 where
-  pub name : List ℕ
-  pub content : List ℕ
+-- A read gives as many bytes from the front as are left and fit.
+pub record GivesFront (old new : List ℕ) (n : ℕ) (into : List ℕ) : Type 0 where
+  pub count : n ≡ min (length into) (length old)
+  pub moved : old ≡ take n into ++ new
 
--- The writes into a folder that succeeded, in order, which may fill `room`.
-pub record Writes : Type 0 where
-  pub all : List Written
-  pub room : ℕ
+-- What a read makes of a source.
+abbrev pub SourceReads : {E : Type 0} → SourceState → SourceState → List ℕ → Result ℕ E → Type 0
+SourceReads old new into (Ok n) =
+    GivesFront old.left new.left n into
+    × (new ≡ record old { left = new.left; plan = after_call old.plan })
+SourceReads old new into (Err fault) =
+    new ≡ record old { plan = after_call old.plan; faults = one_more old.faults }
 
--- A folder: the writes that succeeded, in order, which may fill `room`.
-pub record FolderState : Type 0 where
-  pub writes : List Written
-  pub room : ℕ
-  pub plan : CallPlan
-  pub faults : ℕ
+-- What a write makes of a sink: it takes the whole piece.
+abbrev pub SinkWrites : {E : Type 0} → SinkState → SinkState → List ℕ → Result ℕ E → Type 0
+SinkWrites old new piece (Ok n) =
+    (n ≡ length piece)
+    × (new ≡ record old { held = old.held ++ piece; plan = after_call old.plan })
+SinkWrites old new piece (Err fault) =
+    new ≡ record old { plan = after_call old.plan; faults = one_more old.faults }
 
--- How much of the room a write fills.
-abbrev pub size_of : Written → ℕ
-size_of write = 64 + length write.name + length write.content
+-- What a read makes of a connection.
+abbrev pub LinkReads : {E : Type 0} → LinkState → LinkState → List ℕ → Result ℕ E → Type 0
+LinkReads old new into (Ok n) =
+    GivesFront old.left new.left n into
+    × (new ≡ record old { left = new.left; plan = after_call old.plan })
+LinkReads old new into (Err fault) =
+    new ≡ record old { plan = after_call old.plan; read_faults = one_more old.read_faults }
 
--- How much of the room these writes fill. What was overwritten is not given back.
-abbrev pub size_of_all : List Written → ℕ
-size_of_all writes = sum_by size_of writes
+-- What a write makes of a connection: it takes the whole piece.
+abbrev pub LinkWrites : {E : Type 0} → LinkState → LinkState → List ℕ → Result ℕ E → Type 0
+LinkWrites old new piece (Ok n) =
+    (n ≡ length piece)
+    × (new ≡ record old { held = old.held ++ piece; plan = after_call old.plan })
+LinkWrites old new piece (Err fault) =
+    new ≡ record old { plan = after_call old.plan; write_faults = one_more old.write_faults }
 
--- The file of a name after these writes, from what there was before them: a write hides what was
--- written under its name before.
-unfoldable pub file_after : Option (List ℕ) → List Written → List ℕ → Option (List ℕ)
-file_after before [] name = before
-file_after before (write ∷ writes) name =
-    file_after (if bytes_eq write.name name then Some write.content else before) writes name
+-- What `accept` makes of a door: it hands out the first of the connections to come.
+abbrev pub DoorAccepts : {C E : Type 0} → DoorState C → DoorState C → Result (Option C) E → Type 0
+DoorAccepts old new (Ok (Some conn)) =
+    (old.coming ≡ conn ∷ new.coming)
+    × (new ≡ record old { coming = new.coming; handed_out = old.handed_out + 1; plan = after_call old.plan })
+DoorAccepts old new (Ok None) = (old.coming ≡ []) × (new ≡ record old { plan = after_call old.plan })
+DoorAccepts old new (Err fault) = new ≡ record old { plan = after_call old.plan; faults = one_more old.faults }

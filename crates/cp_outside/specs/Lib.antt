@@ -1,9 +1,14 @@
 pub mod Causes
+pub mod DiskLaws
+pub mod Disks
 pub mod Doors
 pub mod Entries
 pub mod FileLogs
 pub mod Folders
 pub mod Forms
+pub mod MemDiskLaws
+pub mod MemDiskWords
+pub mod MemDisks
 pub mod MemFolders
 pub mod Schedules
 pub mod WholeFiles

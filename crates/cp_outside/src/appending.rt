@@ -17,10 +17,8 @@ pub(crate) fn append(
     requires within { All (IsWithin (vec_len bytes.old)) entries.old.items }
     ensures succeeds { IsOk result }
     ensures bytes { bytes.new.items ≡ bytes.old.items ++ name.now ++ content.now }
-    ensures writes {
-        writes_in bytes.new.items entries.new.items
-            ≡ writes_in bytes.old.items entries.old.items ++ record { name = name.now; content = content.now } ∷ []
-    }
+    ensures writes { writes_in bytes.new.items entries.new.items
+        ≡ writes_in bytes.old.items entries.old.items ++ record { name = name.now; content = content.now } ∷ [] }
     ensures within { All (IsWithin (vec_len bytes.new)) entries.new.items }
     ensures lengths { (vec_len entries.new ≡ vec_len entries.old + 1) × (vec_len bytes.new ≡ vec_len bytes.old + length name.now + length content.now) }
     ensures capacities { (vec_capacity entries.old ≤ vec_capacity entries.new) × (vec_capacity bytes.old ≤ vec_capacity bytes.new) }
@@ -28,7 +26,9 @@ pub(crate) fn append(
     let start = bytes.len();
     let middle = start + name.len();
     let end = middle + content.len();
-    if bytes.extend_from_slice(name.as_bytes()).is_err() || bytes.extend_from_slice(content).is_err() {
+    if bytes.extend_from_slice(name.as_bytes()).is_err()
+        || bytes.extend_from_slice(content).is_err()
+    {
         return Err(Failed);
     }
     match entries.push(Entry { start, middle, end }) {

@@ -1,7 +1,8 @@
 //! A source in memory.
 ghost use Rattle.std.specs.Prelude.{◌≡◌, ◌↔◌, ◌++◌, None, Some, IsErr, MatchResult, length, min, take};
-ghost use Rattle.cp_outside.specs.Causes.{HasCause, one_more};
-ghost use Rattle.cp_outside.specs.Schedules.{IsDue, after_call};
+ghost use Rattle.cp_outside.specs.Causes.{HasCause};
+ghost use Rattle.cp_outside.specs.Forms.{SourceReads};
+ghost use Rattle.cp_outside.specs.Schedules.{IsDue};
 
 use crate::endpoints::Endpoint;
 use crate::failures::Failed;
@@ -30,13 +31,11 @@ impl BytesSource {
     /// A source of these bytes. Its calls of `read` are numbered from 0, and those with the listed
     /// numbers fail.
     pub fn new(bytes: Vec<u8>, failing: Vec<u64>) -> BytesSource
-        ensures {
-            result ≡ record {
-                left = bytes.items;
-                plan = record { failing = failing.items; calls = 0 };
-                faults = 0
-            }
-        }
+        ensures { result ≡ record {
+          left = bytes.items;
+          plan = record { failing = failing.items; calls = 0 };
+          faults = 0;
+        } }
     {
         BytesSource {
             supply: Supply::new(bytes),
@@ -61,16 +60,7 @@ impl Source for BytesSource {
     fn read(&mut self, into: &mut [u8]) -> Result<usize, Failed>
         ensures fails { IsErr result ↔ IsDue self.old.plan }
         ensures cause { HasCause self.old.faults self.new.faults result }
-        ensures gives {
-            MatchResult result
-                (λ n. (n ≡ min (length into.new) (length self.old.left))
-                    × (self.old.left ≡ take n into.new ++ self.new.left)
-                    × (self.new ≡ record self.old { left = self.new.left; plan = after_call self.old.plan }))
-                (λ _. self.new ≡ record self.old {
-                    plan = after_call self.old.plan;
-                    faults = one_more self.old.faults
-                })
-        }
+        ensures reads { SourceReads self.old self.new into.new result }
     {
         if self.schedule.count() {
             count_fault(&mut self.faults);

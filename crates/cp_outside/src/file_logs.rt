@@ -1,7 +1,7 @@
 //! The writes into a folder in memory.
 ghost use Rattle.std.specs.Prelude.{◌≡◌, ◌↔◌, ◌≢◌, ◌<◌, ◌+◌, ◌∷◌, ◌++◌, [], ℕ, List, None, Some, IfOk, IsErr, MatchResult, OnOk, length};
 ghost use Rattle.std.specs.Option.{option_map};
-ghost use Rattle.cp_outside.specs.Forms.{file_after, size_of_all};
+ghost use Rattle.cp_outside.specs.MemFolders.{file_after, size_of_all};
 
 use crate::appending::append;
 use crate::entries::Entry;
@@ -20,7 +20,7 @@ pub(crate) struct FileLog {
 }
 
 impl Model for FileLog {
-    ghost use Rattle.cp_outside.specs.Forms.{Writes};
+    ghost use Rattle.cp_outside.specs.MemFolders.{Writes};
 
     ghost Value = { Writes };
 
@@ -56,21 +56,20 @@ impl FileLog {
 
     // Adds a write, exactly where the room has place for it.
     pub(crate) fn add(&mut self, name: &str, content: &[u8]) -> Result<(), Failed>
-        ensures full {
-            IsErr result
-                ↔ (self.old.room < size_of_all self.old.all + (64 + length name.now + length content.now))
-        }
-        ensures added {
-            MatchResult result
-                (λ _. self.new ≡ record self.old {
-                    all = self.old.all ++ record { name = name.now; content = content.now } ∷ []
-                })
-                (λ _. self.new ≡ self.old)
-        }
+        ensures full { IsErr result
+            ↔ (self.old.room < size_of_all self.old.all + (64 + length name.now + length content.now)) }
+        ensures added { MatchResult result
+            (λ _. self.new ≡ record self.old {
+              all = self.old.all ++ record { name = name.now; content = content.now } ∷ [];
+            })
+            (λ _. self.new ≡ self.old) }
     {
         let filled = 64 * self.entries.len() as u64 + self.bytes.len() as u64;
         let left = self.room - filled;
-        if left < 64 || left - 64 < name.len() as u64 || left - 64 - (name.len() as u64) < content.len() as u64 {
+        if left < 64
+            || left - 64 < name.len() as u64
+            || left - 64 - (name.len() as u64) < content.len() as u64
+        {
             return Err(Failed);
         }
         append(&mut self.entries, &mut self.bytes, name, content)

@@ -1,8 +1,8 @@
 //! A door in memory.
 ghost use Rattle.std.specs.Prelude.{◌≡◌, ◌↔◌, ◌<◌, ◌+◌, ◌∷◌, ◌++◌, [], Some, None, Ok, Err, IfOk, IsErr};
 ghost use Rattle.cp_outside.specs.Causes.{HasCause};
-ghost use Rattle.cp_outside.specs.Doors.{Accepts};
-ghost use Rattle.cp_outside.specs.Schedules.{IsDue, after_call};
+ghost use Rattle.cp_outside.specs.Forms.{DoorAccepts};
+ghost use Rattle.cp_outside.specs.Schedules.{IsDue};
 
 use crate::doors::Door;
 use crate::failures::{Failed, OutOfMemory};
@@ -29,15 +29,13 @@ impl<C: Link + Drop> Model for MemDoor<C> {
 
     ghost Value = { DoorState C };
 
-    ghost view = {
-        λ s. record {
-            coming = reverse s.coming.items;
-            ended = s.ended.items;
-            handed_out = s.handed_out;
-            plan = s.schedule;
-            faults = s.faults
-        }
-    };
+    ghost view = { λ s. record {
+      coming = reverse s.coming.items;
+      ended = s.ended.items;
+      handed_out = s.handed_out;
+      plan = s.schedule;
+      faults = s.faults;
+    } };
 
     // each connection that is not here yet has its place among the ended ones
     ghost invariant = { λ s. vec_len s.coming + s.handed_out + vec_len s.ended ≤ vec_capacity s.ended };
@@ -46,16 +44,18 @@ impl<C: Link + Drop> Model for MemDoor<C> {
 impl<C: Link + Drop> MemDoor<C> {
     /// A door to which these connections come, the first of the list first. Its calls of `accept` are
     /// numbered from 0, and those with the listed numbers fail.
-    pub fn new(alloc: Global, mut coming: Vec<C>, failing: Vec<u64>) -> Result<MemDoor<C>, OutOfMemory>
-        ensures {
-            IfOk result (λ door. door ≡ record {
-                coming = coming.items;
-                ended = [];
-                handed_out = 0;
-                plan = record { failing = failing.items; calls = 0 };
-                faults = 0
-            })
-        }
+    pub fn new(
+        alloc: Global,
+        mut coming: Vec<C>,
+        failing: Vec<u64>,
+    ) -> Result<MemDoor<C>, OutOfMemory>
+        ensures { IfOk result (λ door. door ≡ record {
+          coming = coming.items;
+          ended = [];
+          handed_out = 0;
+          plan = record { failing = failing.items; calls = 0 };
+          faults = 0;
+        }) }
     {
         let ended = Vec::with_capacity(alloc, coming.len())?;
         coming.reverse();
@@ -91,7 +91,7 @@ impl<C: Link + Drop> Door for MemDoor<C> {
     fn accept(&mut self) -> Result<Option<C>, Failed>
         ensures fails { IsErr result ↔ IsDue self.old.plan }
         ensures cause { HasCause self.old.faults self.new.faults result }
-        ensures accepts { Accepts self.old self.new result }
+        ensures accepts { DoorAccepts self.old self.new result }
     {
         if self.schedule.count() {
             count_fault(&mut self.faults);
@@ -108,15 +108,14 @@ impl<C: Link + Drop> Door for MemDoor<C> {
 
     fn end(&mut self, conn: C)
         requires handed_out { 0 < self.old.handed_out }
-        ensures ended {
-            self.new ≡ record self.old {
-                ended = self.old.ended ++ conn ∷ [];
-                handed_out = self.new.handed_out
-            }
-        }
+        ensures ended { self.new ≡ record self.old {
+          ended = self.old.ended ++ conn ∷ [];
+          handed_out = self.new.handed_out;
+        } }
         ensures handed_out { self.new.handed_out + 1 ≡ self.old.handed_out }
     {
         self.handed_out -= 1;
+        // its place was taken when the door was made
         let _ = self.ended.push(conn);
     }
 }

@@ -1,11 +1,10 @@
 //! A folder in memory.
-ghost use Rattle.std.specs.Prelude.{◌≡◌, ◌≢◌, ℕ, List, Some, OnOk, ◌↔◌, ◌⊎◌, ◌<◌, ◌+◌, ◌∷◌, ◌++◌, [], true, None, Err, IfOk, IsErr, MatchResult, length};
+ghost use Rattle.std.specs.Prelude.{◌≡◌, ◌≢◌, ◌↔◌, ◌⊎◌, ◌<◌, ◌+◌, ◌-◌, ◌∷◌, ◌++◌, [], ℕ, List, Some, None, true, Err, IfOk, IsErr, OnOk, length, drop, min, take};
 ghost use Rattle.std.specs.Option.{option_map};
-ghost use Rattle.cp_outside.specs.Causes.{HasCause, one_more};
+ghost use Rattle.cp_outside.specs.Causes.{HasCause};
 ghost use Rattle.cp_outside.specs.Folders.{HasFolderCause};
-ghost use Rattle.cp_outside.specs.Forms.{file_after, size_of_all};
-ghost use Rattle.cp_outside.specs.MemFolders.{ReadsFrom};
-ghost use Rattle.cp_outside.specs.Schedules.{IsDue, after_call};
+ghost use Rattle.cp_outside.specs.MemFolders.{FolderReads, FolderWrites, file_after, size_of_all};
+ghost use Rattle.cp_outside.specs.Schedules.{IsDue};
 
 use crate::failures::{Failed, OutOfMemory};
 use crate::file_logs::FileLog;
@@ -26,27 +25,23 @@ pub struct MemFolder {
 
 impl Model for MemFolder {
     ghost use Rattle.cp_outside.specs.Folders.{HasFolderCause};
-ghost use Rattle.cp_outside.specs.Forms.{FolderState};
+    ghost use Rattle.cp_outside.specs.MemFolders.{FolderState};
 
     ghost Value = { FolderState };
 
-    ghost view = {
-        λ s. record { writes = s.log.all; room = s.log.room; plan = s.schedule; faults = s.faults }
-    };
+    ghost view = { λ s. record { writes = s.log.all; room = s.log.room; plan = s.schedule; faults = s.faults } };
 }
 
 impl MemFolder {
     /// A folder with no file, with this room. Its calls of `read_at` and `write` are numbered together
     /// from 0, and those with the listed numbers fail.
     pub fn new(alloc: Global, room: u64, failing: Vec<u64>) -> Result<MemFolder, OutOfMemory>
-        ensures {
-            IfOk result (λ folder. folder ≡ record {
-                writes = [];
-                room = room;
-                plan = record { failing = failing.items; calls = 0 };
-                faults = 0
-            })
-        }
+        ensures { IfOk result (λ folder. folder ≡ record {
+          writes = [];
+          room = room;
+          plan = record { failing = failing.items; calls = 0 };
+          faults = 0;
+        }) }
     {
         Ok(MemFolder {
             log: FileLog::new(alloc, room)?,
@@ -74,7 +69,7 @@ impl Folder for MemFolder {
     fn read_at(&mut self, name: &str, at: u64, into: &mut [u8]) -> Result<usize, FolderFault>
         ensures fails { (result ≡ Err FolderFault.Failed) ↔ IsDue self.old.plan }
         ensures cause { HasFolderCause self.old.faults self.new.faults result }
-        ensures reads { ReadsFrom self.old self.new name.now at into.new result }
+        ensures reads { FolderReads self.old self.new name.now at into.new result }
     {
         if self.schedule.count() {
             count_fault(&mut self.faults);
@@ -90,30 +85,16 @@ impl Folder for MemFolder {
     /// before.
     #[tactic(auto, using(crate::proofs::WriteLemmas::file_after_write))]
     fn write(&mut self, name: &str, bytes: &[u8]) -> Result<(), Failed>
-        ensures fails {
-            IsErr result
-                ↔ (IsDue self.old.plan
-                    ⊎ (self.old.room < size_of_all self.old.writes + (64 + length name.now + length bytes.now)))
-        }
+        ensures fails { IsErr result
+            ↔ (IsDue self.old.plan
+            ⊎ (self.old.room < size_of_all self.old.writes + (64 + length name.now + length bytes.now))) }
         ensures cause { HasCause self.old.faults self.new.faults result }
-        ensures writes {
-            MatchResult result
-                (λ _. self.new ≡ record self.old {
-                    writes = self.old.writes ++ record { name = name.now; content = bytes.now } ∷ [];
-                    plan = after_call self.old.plan
-                })
-                (λ _. self.new ≡ record self.old {
-                    plan = after_call self.old.plan;
-                    faults = one_more self.old.faults
-                })
-        }
+        ensures writes { FolderWrites self.old self.new name.now bytes.now result }
 
         // what these writes make of the files
         ensures written { OnOk result (file_after None self.new.writes name.now ≡ Some bytes.now) }
-        ensures others {
-            (other : List ℕ) → other ≢ name.now
-                → file_after None self.new.writes other ≡ file_after None self.old.writes other
-        }
+        ensures others { (other : List ℕ) → other ≢ name.now
+            → file_after None self.new.writes other ≡ file_after None self.old.writes other }
     {
         if self.schedule.count() || self.log.add(name, bytes).is_err() {
             count_fault(&mut self.faults);
@@ -122,8 +103,6 @@ impl Folder for MemFolder {
         Ok(())
     }
 }
-
-ghost use Rattle.std.specs.Prelude.{◌-◌, drop, min, take};
 
 // Copies a file's bytes from `at` on to the front of `into`, as many as there are and fit.
 fn copy_from(file: &[u8], at: u64, into: &mut [u8]) -> usize

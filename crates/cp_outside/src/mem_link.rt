@@ -1,7 +1,8 @@
 //! A connection in memory.
 ghost use Rattle.std.specs.Prelude.{◌≡◌, ◌↔◌, ◌⊎◌, ◌<◌, ◌+◌, ◌++◌, [], Some, IfOk, IsErr, MatchResult, length, min, take};
-ghost use Rattle.cp_outside.specs.Causes.{HasCause, one_more};
-ghost use Rattle.cp_outside.specs.Schedules.{IsDue, after_call};
+ghost use Rattle.cp_outside.specs.Causes.{HasCause};
+ghost use Rattle.cp_outside.specs.Forms.{LinkReads, LinkWrites};
+ghost use Rattle.cp_outside.specs.Schedules.{IsDue};
 
 use crate::endpoints::Endpoint;
 use crate::failures::{Failed, OutOfMemory};
@@ -30,32 +31,33 @@ impl Model for MemLink {
 
     ghost Value = { LinkState };
 
-    ghost view = {
-        λ s. record {
-            left = s.supply;
-            held = s.store.bytes;
-            room = s.store.room;
-            plan = s.schedule;
-            read_faults = s.read_faults;
-            write_faults = s.write_faults
-        }
-    };
+    ghost view = { λ s. record {
+      left = s.supply;
+      held = s.store.bytes;
+      room = s.store.room;
+      plan = s.schedule;
+      read_faults = s.read_faults;
+      write_faults = s.write_faults;
+    } };
 }
 
 impl MemLink {
     /// A connection that gives these bytes and holds nothing, with room for so many. Its calls of `read`
     /// and `write` are numbered together from 0, and those with the listed numbers fail.
-    pub fn new(alloc: Global, bytes: Vec<u8>, room: u64, failing: Vec<u64>) -> Result<MemLink, OutOfMemory>
-        ensures {
-            IfOk result (λ link. link ≡ record {
-                left = bytes.items;
-                held = [];
-                room = room;
-                plan = record { failing = failing.items; calls = 0 };
-                read_faults = 0;
-                write_faults = 0
-            })
-        }
+    pub fn new(
+        alloc: Global,
+        bytes: Vec<u8>,
+        room: u64,
+        failing: Vec<u64>,
+    ) -> Result<MemLink, OutOfMemory>
+        ensures { IfOk result (λ link. link ≡ record {
+          left = bytes.items;
+          held = [];
+          room = room;
+          plan = record { failing = failing.items; calls = 0 };
+          read_faults = 0;
+          write_faults = 0;
+        }) }
     {
         Ok(MemLink {
             store: Store::new(alloc, room)?,
@@ -89,16 +91,7 @@ impl Source for MemLink {
     fn read(&mut self, into: &mut [u8]) -> Result<usize, Failed>
         ensures fails { IsErr result ↔ IsDue self.old.plan }
         ensures cause { HasCause self.old.read_faults self.new.read_faults result }
-        ensures gives {
-            MatchResult result
-                (λ n. (n ≡ min (length into.new) (length self.old.left))
-                    × (self.old.left ≡ take n into.new ++ self.new.left)
-                    × (self.new ≡ record self.old { left = self.new.left; plan = after_call self.old.plan }))
-                (λ _. self.new ≡ record self.old {
-                    plan = after_call self.old.plan;
-                    read_faults = one_more self.old.read_faults
-                })
-        }
+        ensures reads { LinkReads self.old self.new into.new result }
     {
         if self.schedule.count() {
             count_fault(&mut self.read_faults);
@@ -111,23 +104,10 @@ impl Source for MemLink {
 impl Sink for MemLink {
     /// Takes the whole piece. It fails exactly where its number is listed or the room left is too small.
     fn write(&mut self, bytes: &[u8]) -> Result<usize, Failed>
-        ensures fails {
-            IsErr result
-                ↔ (IsDue self.old.plan ⊎ (self.old.room < length self.old.held + length bytes.now))
-        }
+        ensures fails { IsErr result
+            ↔ (IsDue self.old.plan ⊎ (self.old.room < length self.old.held + length bytes.now)) }
         ensures cause { HasCause self.old.write_faults self.new.write_faults result }
-        ensures takes {
-            MatchResult result
-                (λ n. (n ≡ length bytes.now)
-                    × (self.new ≡ record self.old {
-                        held = self.old.held ++ bytes.now;
-                        plan = after_call self.old.plan
-                    }))
-                (λ _. self.new ≡ record self.old {
-                    plan = after_call self.old.plan;
-                    write_faults = one_more self.old.write_faults
-                })
-        }
+        ensures writes { LinkWrites self.old self.new bytes.now result }
     {
         if self.schedule.count() || self.store.append(bytes).is_err() {
             count_fault(&mut self.write_faults);

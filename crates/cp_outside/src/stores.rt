@@ -43,11 +43,9 @@ impl Store {
     // Appends a piece, exactly where the room has place for it.
     pub(crate) fn append(&mut self, piece: &[u8]) -> Result<(), Failed>
         ensures full { IsErr result ↔ (self.old.room < length self.old.bytes + length piece.now) }
-        ensures kept {
-            MatchResult result
-                (λ _. self.new ≡ record self.old { bytes = self.old.bytes ++ piece.now })
-                (λ _. self.new ≡ self.old)
-        }
+        ensures kept { MatchResult result
+            (λ _. self.new ≡ record self.old { bytes = self.old.bytes ++ piece.now })
+            (λ _. self.new ≡ self.old) }
     {
         if piece.len() as u64 > self.room - self.bytes.len() as u64 {
             return Err(Failed);

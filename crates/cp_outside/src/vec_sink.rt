@@ -1,7 +1,8 @@
 //! A sink in memory.
 ghost use Rattle.std.specs.Prelude.{◌≡◌, ◌↔◌, ◌⊎◌, ◌<◌, ◌+◌, ◌++◌, [], None, Some, IfOk, IsErr, MatchResult, length};
-ghost use Rattle.cp_outside.specs.Causes.{HasCause, one_more};
-ghost use Rattle.cp_outside.specs.Schedules.{IsDue, after_call};
+ghost use Rattle.cp_outside.specs.Causes.{HasCause};
+ghost use Rattle.cp_outside.specs.Forms.{SinkWrites};
+ghost use Rattle.cp_outside.specs.Schedules.{IsDue};
 
 use crate::endpoints::Endpoint;
 use crate::failures::{Failed, OutOfMemory};
@@ -24,23 +25,19 @@ impl Model for VecSink {
 
     ghost Value = { SinkState };
 
-    ghost view = {
-        λ s. record { held = s.store.bytes; room = s.store.room; plan = s.schedule; faults = s.faults }
-    };
+    ghost view = { λ s. record { held = s.store.bytes; room = s.store.room; plan = s.schedule; faults = s.faults } };
 }
 
 impl VecSink {
     /// A sink that holds nothing, with room for so many bytes. Its calls of `write` are numbered from 0,
     /// and those with the listed numbers fail.
     pub fn new(alloc: Global, room: u64, failing: Vec<u64>) -> Result<VecSink, OutOfMemory>
-        ensures {
-            IfOk result (λ sink. sink ≡ record {
-                held = [];
-                room = room;
-                plan = record { failing = failing.items; calls = 0 };
-                faults = 0
-            })
-        }
+        ensures { IfOk result (λ sink. sink ≡ record {
+          held = [];
+          room = room;
+          plan = record { failing = failing.items; calls = 0 };
+          faults = 0;
+        }) }
     {
         Ok(VecSink {
             store: Store::new(alloc, room)?,
@@ -70,23 +67,10 @@ impl Endpoint for VecSink {
 impl Sink for VecSink {
     /// Takes the whole piece. It fails exactly where its number is listed or the room left is too small.
     fn write(&mut self, bytes: &[u8]) -> Result<usize, Failed>
-        ensures fails {
-            IsErr result
-                ↔ (IsDue self.old.plan ⊎ (self.old.room < length self.old.held + length bytes.now))
-        }
+        ensures fails { IsErr result
+            ↔ (IsDue self.old.plan ⊎ (self.old.room < length self.old.held + length bytes.now)) }
         ensures cause { HasCause self.old.faults self.new.faults result }
-        ensures takes {
-            MatchResult result
-                (λ n. (n ≡ length bytes.now)
-                    × (self.new ≡ record self.old {
-                        held = self.old.held ++ bytes.now;
-                        plan = after_call self.old.plan
-                    }))
-                (λ _. self.new ≡ record self.old {
-                    plan = after_call self.old.plan;
-                    faults = one_more self.old.faults
-                })
-        }
+        ensures writes { SinkWrites self.old self.new bytes.now result }
     {
         if self.schedule.count() || self.store.append(bytes).is_err() {
             count_fault(&mut self.faults);

@@ -22,6 +22,7 @@ pub enum ReadWhole {
 // The least and the most bytes that one read asks for. Between them a read asks for as many bytes as
 // were read before it, so that a short file takes little memory and a long one few reads.
 const LEAST: usize = 0x1_0000;
+
 const MOST: usize = 0x10_0000;
 
 /// All bytes of a file, of which there may be at most `limit`. Each piece is read to where it stays.

@@ -1,3 +1,11 @@
+pub mod Tagged
+pub mod PutRequest
+pub mod GetRequest
+pub mod CloseOrder
+pub mod Attestation
+pub mod Closing
+pub mod Entry
 pub mod Envelope
 pub mod Reading
 pub mod View
+pub mod Laws

@@ -8,7 +8,9 @@ use cp_bytes::{Cut, Short};
 /// A text and its signature, which borrow the bytes that they were read from.
 #[derive(Clone, Copy, Debug, PartialEq, Eq)]
 pub struct Envelope<'a> {
+    /// The text, of fewer than 2^32 bytes.
     pub text: &'a [u8],
+    /// The signature on it, of fewer than 2^32 bytes; its first four bytes name a leaf.
     pub signature: &'a [u8],
 }
 

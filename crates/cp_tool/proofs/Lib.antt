@@ -1,3 +1,4 @@
 pub mod Contents
 pub mod InputLemmas
 pub mod Pieces
+pub mod StatusLemmas

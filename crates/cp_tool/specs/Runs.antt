@@ -1,5 +1,5 @@
 -- How each command ends, over the files of its folder (this project's own).
-use Rattle.std.specs.Prelude.{ℕ, ◌≡◌, ◌≢◌, ◌⊎◌, Bool, List, length, take, drop, Option, Some, None, Result, Ok, Err, nat_lt, if◌then◌else◌, IsTrue}
+use Rattle.std.specs.Prelude.{ℕ, ◌≡◌, ◌≢◌, ◌⊎◌, Bool, false, List, length, take, drop, Option, Some, None, Result, Ok, Err, nat_lt, if◌then◌else◌, IsTrue}
 use Rattle.cp_bytes.specs.Fields.{◌>>=◌}
 use Rattle.cp_outside.specs.Causes.{Rose}
 use Rattle.lms_ots.specs.declared.ots_type.OtsType.{OtsType}
@@ -7,6 +7,7 @@ use Rattle.lms_tree.specs.declared.height.Height.{Height}
 use Rattle.lms_tree.specs.PublicKey.{key_reads}
 use Rattle.lms_tree.specs.Verifying.{verifies}
 use Rattle.lms_tree.specs.Secret.{Secret, public_of}
+use Rattle.cp_evidence.specs.Conditions.{Convicts}
 use Rattle.cp_judge.specs.Judging.{judgement_of}
 use Rattle.cp_tool.specs.Commands.{Command}
 use Rattle.cp_tool.specs.Commands.Command.{Judge, Verify, Keygen}
@@ -58,6 +59,13 @@ pub record JudgeEnds (key evidence : List ℕ) (old new : Files) (ending : Outco
   pub evidence_is : IsFile old evidence evidence_file
   pub ends : (ending ≡ judge_ending key_file key evidence_file evidence) ⊎ Stops old.faults new.faults ending
   pub kept : KeepsAll old new
+
+-- what the status says of a key and evidence that were within their limits
+pub record JudgeStatus (key evidence : List ℕ) (status : ℕ) : Type 0 where
+  pub guilty : status ≡ 0 → Convicts key evidence
+  pub convicts : Convicts key evidence → (status ≡ 0) ⊎ (status ≡ 4) ⊎ (status ≡ 5)
+  pub innocent : status ≡ 1 → IsTrue (key_reads key) × ¬ Convicts key evidence
+  pub refused : status ≡ 3 → key_reads key ≡ false
 
 -- ---- verify: a key of 56 bytes, a text of at most 1 MiB, a signature of at most 16 KiB
 

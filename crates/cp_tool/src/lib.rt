@@ -13,3 +13,6 @@ mod verifying;
 pub use command::Command;
 pub use ending::Ending;
 pub use running::run;
+
+#[cfg(test)]
+mod tests;

@@ -1,13 +1,12 @@
 //! The commands of the program, over any folder and sink.
-ghost use Rattle.std.specs.Prelude.{◌≡◌, ◌⊎◌, ◌↔◌, ◌≤◌, ℕ, List, Some, None, map, string_bytes, length, IsTrue};
+ghost use Rattle.std.specs.Prelude.{◌≡◌, ◌⊎◌, ◌≤◌, ℕ, List, Some, None, map, string_bytes, length, IsTrue};
 ghost use Rattle.cp_outside.specs.Causes.{Rose};
-ghost use Rattle.cp_evidence.specs.Conditions.{Convicts};
 ghost use Rattle.cp_tool.specs.Commands.{command_of};
 ghost use Rattle.cp_tool.specs.Commands.Command.{Judge};
 ghost use Rattle.cp_tool.specs.Endings.{Outcome};
 ghost use Rattle.cp_tool.specs.Reports.{Reports};
-ghost use Rattle.cp_tool.specs.Runs.{RunEnds, Files};
-ghost use Rattle.cp_tool.specs.View.{ending_view, command_view};
+ghost use Rattle.cp_tool.specs.Runs.{RunEnds, Files, JudgeStatus};
+ghost use Rattle.cp_tool.specs.View.{ending_view};
 
 use crate::command::Command;
 use crate::ending::Ending;
@@ -55,6 +54,7 @@ fn done<'a, R: Threads + Sync, F: Folder>(
 /// what it makes there, prints its line to `out`, and answers its status: 0 done or yes, 1 no, 2 the
 /// words are no command's, 3 a refused input, 4 a fault of the folder or the sink, 5 want of memory.
 /// Every command returns.
+#[tactic(auto, using(crate::proofs::StatusLemmas::statuses))]
 pub fn run<R: Threads + Sync, F: Folder, S: Sink>(
     rt: &R,
     alloc: Global,
@@ -67,6 +67,17 @@ pub fn run<R: Threads + Sync, F: Folder, S: Sink>(
         (record { tells = F.tells files.old; file = F.file files.old; faults = F.faults files.old })
         (record { tells = F.tells files.new; file = F.file files.new; faults = F.faults files.new }) ending
         × Reports (S.held out.old) (S.held out.new) (S.write_faults out.old) (S.write_faults out.new) ending result }
+
+    // 2 comes exactly where the words are no command's, unless the line can't be written.
+    ensures usage { result ≡ 2 → command_of (map string_bytes words.now) ≡ None }
+    ensures no_command { command_of (map string_bytes words.now) ≡ None → (result ≡ 2) ⊎ ((result ≡ 4) × Rose (S.write_faults out.old) (S.write_faults out.new)) }
+
+    // `judge` over files that are told and within their limits: 0 comes exactly where the evidence
+    // convicts, and 1 only where the key reads and it doesn't.
+    ensures judge { (key evidence key_bytes evidence_bytes : List ℕ) → command_of (map string_bytes words.now) ≡ Some (Judge key evidence) → IsTrue (F.tells files.old)
+        → F.file files.old key ≡ Some key_bytes → length key_bytes ≤ 56
+        → F.file files.old evidence ≡ Some evidence_bytes → length evidence_bytes ≤ 536870912
+        → JudgeStatus key_bytes evidence_bytes result }
 
     // 4 comes only where a count rose.
     ensures fault { result ≡ 4 → Rose (F.faults files.old) (F.faults files.new) ⊎ Rose (S.write_faults out.old) (S.write_faults out.new) }

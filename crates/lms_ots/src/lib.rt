@@ -4,7 +4,9 @@
 
 mod chains;
 mod digits;
+mod lanes;
 mod ots_type;
+pub mod plain;
 mod signing;
 #[cfg(test)]
 mod tests;
@@ -12,6 +14,6 @@ mod verifying;
 
 pub use chains::tagged;
 pub use digits::{cksm, coef};
+pub use lanes::{ots_candidate, ots_public, ots_sign};
 pub use ots_type::OtsType;
-pub use signing::{ots_public, ots_sign, what_is_signed_leads_to_its_key};
-pub use verifying::ots_candidate;
+pub use signing::what_is_signed_leads_to_its_key;

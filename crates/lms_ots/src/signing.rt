@@ -13,10 +13,10 @@ use cp_bytes::put;
 use sha2::{Digest, Sha256};
 
 // The chain number under which the randomizer is made: no type has so many chains.
-const RANDOMIZER: u16 = 0xfffd;
+pub(crate) const RANDOMIZER: u16 = 0xfffd;
 
 // x[i], the secret start of chain `i`.
-fn secret_start(id: &[u8; 16], q: u32, i: u16, secret: &[u8; 32]) -> [u8; 32]
+pub(crate) fn secret_start(id: &[u8; 16], q: u32, i: u16, secret: &[u8; 32]) -> [u8; 32]
     ensures { result ≡ secret_start id.now q i secret.now }
 {
     let mut message = step_message(id, q, i);
@@ -30,14 +30,8 @@ fn last(t: OtsType, id: &[u8; 16], q: u32, i: u32, secret: &[u8; 32]) -> [u8; 32
     requires { i < chains_of t }
     ensures { result ≡ chain id.now q i 0 (max_digit (width_of t)) (secret_start id.now q i secret.now) }
 {
-    chain(
-        id,
-        q,
-        i as u16,
-        0,
-        max_digit(t),
-        secret_start(id, q, i as u16, secret),
-    )
+    let start = secret_start(id, q, i as u16, secret);
+    chain(id, q, i as u16, 0, max_digit(t), start)
 }
 
 // y[i], the value of chain `i` at its digit of `s`.
@@ -46,14 +40,8 @@ fn part(t: OtsType, id: &[u8; 16], q: u32, i: u32, s: &[u8; 34], secret: &[u8; 3
     requires { i < chains_of t }
     ensures { result ≡ chain id.now q i 0 (coef s.now i (width_of t)) (secret_start id.now q i secret.now) }
 {
-    chain(
-        id,
-        q,
-        i as u16,
-        0,
-        coef(s, i, t.w()),
-        secret_start(id, q, i as u16, secret),
-    )
+    let start = secret_start(id, q, i as u16, secret);
+    chain(id, q, i as u16, 0, coef(s, i, t.w()), start)
 }
 
 /// K, the one-time public key of the key `id`, the leaf `q` and the seed `secret`.

@@ -37,7 +37,7 @@ pub(crate) fn with_cksm(hash: &[u8; 32], w: u32) -> [u8; 34]
 }
 
 // y[i] of a signature.
-fn y_at(sig: &[u8], i: u32) -> [u8; 32]
+pub(crate) fn y_at(sig: &[u8], i: u32) -> [u8; 32]
     requires { 68 + 32 * i ≤ length sig.now }
     ensures { result ≡ y_at sig.now i }
 {
@@ -66,14 +66,8 @@ fn chain_end(t: OtsType, id: &[u8; 16], q: u32, i: u32, s: &[u8; 34], sig: &[u8]
     requires within { i < chains_of t }
     ensures { result ≡ chain id.now q i (coef s.now i (width_of t)) (max_digit (width_of t)) (y_at sig.now i) }
 {
-    chain(
-        id,
-        q,
-        i as u16,
-        coef(s, i, t.w()),
-        max_digit(t),
-        y_at(sig, i),
-    )
+    let from = coef(s, i, t.w());
+    chain(id, q, i as u16, from, max_digit(t), y_at(sig, i))
 }
 
 // The hash of all ends.

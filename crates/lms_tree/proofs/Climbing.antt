@@ -1,27 +1,25 @@
 -- What is signed verifies: the climb meets the nodes of the tree.
-use Rattle.std.proofs.Common.{◌≡◌, ◌≢◌, ◌⊎◌, inl, inr, ℕ, zero, suc, ◌+◌, ◌-◌, ◌*◌, ◌/◌, ◌%◌, ◌^◌, ◌<◌, ◌≤◌, ◌++◌, List, [], length, take, drop, get_or, append_assoc, refl, ap, sym, ◌∙◌, subst, arith, rules, length-append, length-drop, below_more}
+use Rattle.std.proofs.Common.{◌≡◌, ◌⊎◌, inl, inr, ℕ, zero, suc, ◌+◌, ◌-◌, ◌*◌, ◌/◌, ◌%◌, ◌^◌, ◌<◌, ◌≤◌, ◌++◌, List, [], length, take, drop, get_or, append_assoc, refl, ap, sym, ◌∙◌, subst, arith, length-append, length-drop, below_more}
 use Rattle.std.proofs.lemmas.Bool.{cases_lt}
 use Rattle.std.proofs.lemmas.List.{take_at, drop_at, take_all, take-append-le, drop-append-le}
 use Rattle.std.proofs.lemmas.Nat.{from_be_bytes-to_be_bytes_4}
 use Rattle.std.proofs.Math.Nat.{pow-suc}
 use Rattle.std.specs.Int.{w32, to_be_bytes, from_be_bytes}
-use Rattle.sha2.specs.Sha256.{sha256}
 use Rattle.sha2.proofs.Facts256.{length-sha256}
 use Rattle.lms_ots.specs.declared.ots_type.OtsType.{OtsType}
-use Rattle.lms_ots.specs.declared.ots_type.OtsType.TheVariants.{W1, W2, W4, W8}
 use Rattle.lms_ots.specs.Parameters.{code_of, ots_of, sig_len_of}
-use Rattle.lms_ots.specs.Ots.{candidate, IsOtsSignature}
+use Rattle.lms_ots.specs.Ots.{candidate}
 use Rattle.lms_ots.specs.Signing.{one_time_key, ots_signature}
 use Rattle.lms_tree.specs.PublicKey.{number_at, key_lms, key_ots, key_id, key_root, key_reads, key_type, key_height}
 use Rattle.lms_tree.specs.Parameters.{height_of_code, levels_of, height_code, lms_code_of}
 use Rattle.lms_tree.specs.Tree.{above, parent, inner_node, leaf_node, path_at, climb, sibling}
-use Rattle.lms_tree.specs.Verifying.{leaf_of, ots_sig, path_of, root_candidate, Verifies}
-use Rattle.lms_tree.specs.Secret.{Secret, leaves_of, leaf_at, node_within, node, public_of, path_from, signature_len, signature_head, signature}
+use Rattle.lms_tree.specs.Verifying.{leaf_of, ots_sig, path_of, root_candidate}
+use Rattle.lms_tree.specs.Secret.{Secret, leaves_of, node_within, node, public_of, path_from, signature_len, signature_head, signature}
 use Rattle.lms_tree.specs.Kept.{path_in, HoldsNodes}
 use Rattle.lms_ots.proofs.Signed.{leads, signature-long, signature-code}
 use Rattle.lms_tree.specs.declared.height.Height.{Height}
 use Rattle.lms_tree.specs.declared.height.Height.TheVariants.{H5, H10, H15}
-use Rattle.lms_tree.proofs.Heights.{few_leaves, some_leaves, levels_by_code, height_code_fits}
+use Rattle.lms_tree.proofs.Heights.{few_leaves, levels_by_code, height_code_fits}
 use Rattle.std.specs.Prelude.{IsTrue}
 use Rattle.lms_tree.specs.declared.lms_type.LmsType.{LmsType}
 use Rattle.lms_tree.specs.declared.lms_type.LmsType.TheVariants as lms
@@ -74,14 +72,14 @@ pub parent_is : (key : Secret) (v : ℕ) → 2 ≤ v → v < 2 * leaves_of key �
 parent_is key v low lt =
     let up : node key (v / 2) ≡ inner_node key.id (v / 2) (node key (2 * (v / 2))) (node key (2 * (v / 2) + 1)) = node_inner key (v / 2) (omega arith) (omega arith) in
     elim (parity v) [
-      inl odd ↦
-        let left : 2 * (v / 2) ≡ v - 1 = omega arith in
-        let right : 2 * (v / 2) + 1 ≡ v = omega arith in
-        rw odd (sym (up ∙ ap (λ k. inner_node key.id (v / 2) (node key k) (node key (2 * (v / 2) + 1))) left ∙ ap (λ k. inner_node key.id (v / 2) (node key (v - 1)) (node key k)) right))
-    | inr even ↦
-        let left : 2 * (v / 2) ≡ v = omega arith in
-        let right : 2 * (v / 2) + 1 ≡ v + 1 = omega arith in
-        rw even (sym (up ∙ ap (λ k. inner_node key.id (v / 2) (node key k) (node key (2 * (v / 2) + 1))) left ∙ ap (λ k. inner_node key.id (v / 2) (node key v) (node key k)) right))
+      | inl odd ↦
+          let left : 2 * (v / 2) ≡ v - 1 = omega arith in
+          let right : 2 * (v / 2) + 1 ≡ v = omega arith in
+          rw odd (sym (up ∙ ap (λ k. inner_node key.id (v / 2) (node key k) (node key (2 * (v / 2) + 1))) left ∙ ap (λ k. inner_node key.id (v / 2) (node key (v - 1)) (node key k)) right))
+      | inr even ↦
+          let left : 2 * (v / 2) ≡ v = omega arith in
+          let right : 2 * (v / 2) + 1 ≡ v + 1 = omega arith in
+          rw even (sym (up ∙ ap (λ k. inner_node key.id (v / 2) (node key k) (node key (2 * (v / 2) + 1))) left ∙ ap (λ k. inner_node key.id (v / 2) (node key v) (node key k)) right))
     ]
 
 pub climb_nodes : (key : Secret) (path : List ℕ) (r n : ℕ) → n ≤ levels_of key.height → leaves_of key ≤ r → r < 2 * leaves_of key
@@ -91,7 +89,7 @@ unfolding climb above
 climb_nodes key path r zero le low lt parts = refl
 climb_nodes key path r (suc n) le low lt parts =
     let below : climb key.id path r (node key r) n ≡ node key (above r n) =
-      climb_nodes key path r n (omega arith) low lt (λ i i_lt. parts i (omega arith)) in
+    climb_nodes key path r n (omega arith) low lt (λ i i_lt. parts i (omega arith)) in
     let here : path_at path n ≡ node key (sibling (above r n)) = parts n (omega arith) in
     let bounds : (2 ≤ above r n) × (above r n < 2 * leaves_of key) = above_within (levels_of key.height) r n low lt (omega arith) in
     ap (λ x. parent key.id (above r n) x (path_at path n)) below
@@ -104,8 +102,8 @@ pub node_within_long : (key : Secret) (n r : ℕ) → length (node_within key n 
 node_within_long key zero r = ap length (zero_leaf key r) ∙ length-sha256 _
 node_within_long key (suc n) r =
     elim (cases_lt r (leaves_of key)) [
-      inl lt ↦ ap length (within_inner key n r lt) ∙ length-sha256 _
-    | inr ge ↦ ap length (within_leaf key (suc n) r ge) ∙ length-sha256 _
+      | inl lt ↦ ap length (within_inner key n r lt) ∙ length-sha256 _
+      | inr ge ↦ ap length (within_leaf key (suc n) r ge) ∙ length-sha256 _
     ]
 
 pub node_long : (key : Secret) (r : ℕ) → length (node key r) ≡ 32
@@ -134,14 +132,14 @@ pub path_of_nodes : (key : Secret) (r n i : ℕ) → i < n → path_at (path_fro
 path_of_nodes key r zero i lt = absurd (omega arith)
 path_of_nodes key r (suc n) i lt =
     below_more (λ k. path_at (path_from key r (suc n)) k ≡ node key (sibling (above r k))) n
-      (λ k k_lt. path_before key r n k k_lt ∙ path_of_nodes key r n k k_lt) (path_last key r n) i (omega arith)
+    (λ k k_lt. path_before key r n k k_lt ∙ path_of_nodes key r n k k_lt) (path_last key r n) i (omega arith)
 
 -- the path of an array that holds the nodes
 sibling_within : (v l : ℕ) → 2 ≤ v → v < 2 * l → (0 < sibling v) × (sibling v < 2 * l)
 sibling_within v l low lt =
     elim (parity v) [
-      inl odd ↦ rw odd (omega arith, omega arith)
-    | inr even ↦ rw even (omega arith, omega arith)
+      | inl odd ↦ rw odd (omega arith, omega arith)
+      | inr even ↦ rw even (omega arith, omega arith)
     ]
 
 pub path_stands : (key : Secret) (nodes : List (List ℕ)) (r n : ℕ) → HoldsNodes key nodes → n ≤ levels_of key.height → leaves_of key ≤ r → r < 2 * leaves_of key
@@ -209,7 +207,7 @@ pub sig_code : (key : Secret) (leaf : ℕ) (text : List ℕ) → number_at (sign
 unfolding signature signature_head
 sig_code key leaf text =
     ap (from_be_bytes w32) (code_at (to_be_bytes w32 leaf) (ots_signature key.ots key.id leaf key.seed text) (to_be_bytes w32 (height_code key.height))
-      (path_from key (leaves_of key + leaf) (levels_of key.height)) (sig_len_of key.ots) refl (signature-long key.ots key.id leaf key.seed text) refl)
+    (path_from key (leaves_of key + leaf) (levels_of key.height)) (sig_len_of key.ots) refl (signature-long key.ots key.id leaf key.seed text) refl)
     ∙ from_be_bytes-to_be_bytes_4 (height_code key.height) (height_code_fits key.height)
 
 -- ---- the law
@@ -223,14 +221,14 @@ root_reached key leaf text sig lt leaf_is one_time_is path_is =
     let r : ℕ = leaves_of key + leaf in
     let at_leaf : leaves_of key + leaf - leaves_of key ≡ leaf = omega arith in
     let start : leaf_node key.id (leaves_of key + leaf) (one_time_key key.ots key.id leaf key.seed) ≡ node key (leaves_of key + leaf) =
-      ap (λ i. leaf_node key.id (leaves_of key + leaf) (one_time_key key.ots key.id i key.seed)) (sym at_leaf) ∙ sym (node_leaf key (leaves_of key + leaf) (omega arith)) in
+    ap (λ i. leaf_node key.id (leaves_of key + leaf) (one_time_key key.ots key.id i key.seed)) (sym at_leaf) ∙ sym (node_leaf key (leaves_of key + leaf) (omega arith)) in
     ap (λ i. climb key.id (path_of key.ots sig) (leaves_of key + i) (leaf_node key.id (leaves_of key + i) (candidate key.ots key.id i text (ots_sig key.ots sig))) (levels_of key.height)) leaf_is
     ∙ ap (λ o. climb key.id (path_of key.ots sig) (leaves_of key + leaf) (leaf_node key.id (leaves_of key + leaf) (candidate key.ots key.id leaf text o)) (levels_of key.height)) one_time_is
     ∙ ap (λ p. climb key.id p (leaves_of key + leaf) (leaf_node key.id (leaves_of key + leaf) (candidate key.ots key.id leaf text (ots_signature key.ots key.id leaf key.seed text))) (levels_of key.height)) path_is
     ∙ ap (λ k. climb key.id (path_from key (leaves_of key + leaf) (levels_of key.height)) (leaves_of key + leaf) (leaf_node key.id (leaves_of key + leaf) k) (levels_of key.height)) (leads key.ots key.id leaf key.seed text)
     ∙ ap (λ x. climb key.id (path_from key (leaves_of key + leaf) (levels_of key.height)) (leaves_of key + leaf) x (levels_of key.height)) start
     ∙ climb_nodes key (path_from key (leaves_of key + leaf) (levels_of key.height)) (leaves_of key + leaf) (levels_of key.height) (omega arith) (omega arith) (omega arith)
-        (path_of_nodes key (leaves_of key + leaf) (levels_of key.height))
+    (path_of_nodes key (leaves_of key + leaf) (levels_of key.height))
     ∙ ap (node key) (above_top (levels_of key.height) (leaves_of key + leaf) (omega arith) (omega arith))
 
 -- the LMS type of a height
@@ -249,7 +247,7 @@ pub public_is_key : PublicReads
 unfolding public_of
 public_is_key key long =
     subst (λ n. IsTrue (key_reads (to_be_bytes w32 n ++ to_be_bytes w32 (code_of key.ots) ++ key.id ++ node key 1))) (lms_type_code key.height)
-      (spelled_reads (lms_type key.height) key.ots key.id (node key 1) long (node_long key 1))
+    (spelled_reads (lms_type key.height) key.ots key.id (node key 1) long (node_long key 1))
 
 -- the one-time type and the height of the public key
 public_type : (key : Secret) → key_type (public_of key) ≡ key.ots
@@ -274,14 +272,15 @@ sig_ots_code key leaf text =
 
 accepted : (key : Secret) (leaf : ℕ) (text : List ℕ) → length key.id ≡ 16 → leaf < leaves_of key → Conditions key.ots (levels_of key.height) key leaf text
 accepted key leaf text long lt =
-    let fits : leaf < 2 ^ 32 = omega (arith, few_leaves key.height) in
-    (sig_ots_code key leaf text,
-     sig_code key leaf text,
-     subst (λ n. n < leaves_of key) (sym (sig_leaf key leaf text fits)) lt,
-     sig_long key leaf text,
-     ap (λ id. root_candidate key.ots (levels_of key.height) id text (signature key leaf text)) (public_id key long)
-       ∙ root_reached key leaf text (signature key leaf text) lt (sig_leaf key leaf text fits) (sig_one_time key leaf text) (sig_path key leaf text)
-       ∙ sym (public_root key long))
+    let fits : leaf < 2 ^ 32 = omega (arith, few_leaves key.height) in (
+      sig_ots_code key leaf text,
+      sig_code key leaf text,
+      subst (λ n. n < leaves_of key) (sym (sig_leaf key leaf text fits)) lt,
+      sig_long key leaf text,
+      ap (λ id. root_candidate key.ots (levels_of key.height) id text (signature key leaf text)) (public_id key long)
+          ∙ root_reached key leaf text (signature key leaf text) lt (sig_leaf key leaf text fits) (sig_one_time key leaf text) (sig_path key leaf text)
+          ∙ sym (public_root key long),
+    )
 
 pub leaf_named : SignedNamesItsLeaf
 leaf_named key leaf text lt = sig_leaf key leaf text (omega (arith, few_leaves key.height))
@@ -289,15 +288,15 @@ leaf_named key leaf text lt = sig_leaf key leaf text (omega (arith, few_leaves k
 pub signature_verifies : SignedVerifies
 signature_verifies key leaf text long lt =
     let parts : Conditions (key_type (public_of key)) (key_height (public_of key)) key leaf text =
-      subst (λ t. Conditions t (key_height (public_of key)) key leaf text) (sym (public_type key))
-        (subst (λ h. Conditions key.ots h key leaf text) (sym (public_height key)) (accepted key leaf text long lt)) in
+    subst (λ t. Conditions t (key_height (public_of key)) key leaf text) (sym (public_type key))
+    (subst (λ h. Conditions key.ots h key leaf text) (sym (public_height key)) (accepted key leaf text long lt)) in
     verified (public_of key) text (signature key leaf text) (record {
       key_reads = public_is_key key long;
       ots_code = parts.0 ∙ sym (public_ots key);
       lms_code = parts.1 ∙ sym (public_lms key);
       leaf = parts.2;
       long = parts.3;
-      root = parts.4
+      root = parts.4;
     })
 
 pub ruleset signed = (public_is_key, leaf_named, signature_verifies)

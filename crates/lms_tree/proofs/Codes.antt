@@ -1,5 +1,5 @@
 -- What holds of the types' codes.
-use Rattle.std.proofs.Common.{◌≡◌, ◌⊎◌, inl, inr, ℕ, ◌<◌, ◌≤◌, refl, subst, arith}
+use Rattle.std.proofs.Common.{◌≡◌, inl, inr, ℕ, ◌≤◌, refl, subst, arith}
 use Rattle.std.proofs.lemmas.Bool.Decides.{nat_tests}
 use Rattle.std.proofs.lemmas.Bool.{cases_lt}
 use Rattle.std.specs.Prelude.{IsTrue, Bool, true, false, ◌&&◌, nat_le}
@@ -41,12 +41,12 @@ code_of-ots_of code is =
     let high : code ≤ 4 = le_tells code 4 parts.1 in
     let P : ℕ → Type 0 = λ n. code_of (ots_of n) ≡ n in
     elim (cases_lt code 2) [
-      inl below ↦ let here : 1 ≡ code = omega arith in subst P here refl
-    | inr above2 ↦ elim (cases_lt code 3) [
-        inl below ↦ let here : 2 ≡ code = omega arith in subst P here refl
-      | inr above3 ↦ elim (cases_lt code 4) [
-          inl below ↦ let here : 3 ≡ code = omega arith in subst P here refl
-        | inr above4 ↦ let here : 4 ≡ code = omega arith in subst P here refl
+      | inl below ↦ let here : 1 ≡ code = omega arith in subst P here refl
+      | inr above2 ↦ elim (cases_lt code 3) [
+        | inl below ↦ let here : 2 ≡ code = omega arith in subst P here refl
+        | inr above3 ↦ elim (cases_lt code 4) [
+          | inl below ↦ let here : 3 ≡ code = omega arith in subst P here refl
+          | inr above4 ↦ let here : 4 ≡ code = omega arith in subst P here refl
         ]
       ]
     ]
@@ -58,14 +58,14 @@ lms_code_of-lms_of code is =
     let high : code ≤ 9 = le_tells code 9 parts.1 in
     let P : ℕ → Type 0 = λ n. lms_code_of (lms_of n) ≡ n in
     elim (cases_lt code 6) [
-      inl below ↦ let here : 5 ≡ code = omega arith in subst P here refl
-    | inr above6 ↦ elim (cases_lt code 7) [
-        inl below ↦ let here : 6 ≡ code = omega arith in subst P here refl
-      | inr above7 ↦ elim (cases_lt code 8) [
-          inl below ↦ let here : 7 ≡ code = omega arith in subst P here refl
-        | inr above8 ↦ elim (cases_lt code 9) [
-            inl below ↦ let here : 8 ≡ code = omega arith in subst P here refl
-          | inr above9 ↦ let here : 9 ≡ code = omega arith in subst P here refl
+      | inl below ↦ let here : 5 ≡ code = omega arith in subst P here refl
+      | inr above6 ↦ elim (cases_lt code 7) [
+        | inl below ↦ let here : 6 ≡ code = omega arith in subst P here refl
+        | inr above7 ↦ elim (cases_lt code 8) [
+          | inl below ↦ let here : 7 ≡ code = omega arith in subst P here refl
+          | inr above8 ↦ elim (cases_lt code 9) [
+            | inl below ↦ let here : 8 ≡ code = omega arith in subst P here refl
+            | inr above9 ↦ let here : 9 ≡ code = omega arith in subst P here refl
           ]
         ]
       ]

@@ -64,11 +64,12 @@ pub key_read : (bytes : List ℕ) (l o : ℕ) (lms : LmsType) (ots : OtsType) (i
     → IsTrue (key_reads bytes) × (to_be_bytes w32 (lms_code_of lms) ++ to_be_bytes w32 (code_of ots) ++ id ++ root ≡ bytes)
 key_read bytes l o lms ots id root long fits l_is o_is l_ok lms_is o_ok ots_is id_is root_is =
     let l_same : lms_code_of lms ≡ l = ap lms_code_of lms_is ∙ lms_code_of-lms_of l l_ok in
-    let o_same : code_of ots ≡ o = ap code_of ots_is ∙ code_of-ots_of o o_ok in
-    (reads bytes long (subst (λ n. IsTrue (is_lms_code n)) l_is l_ok) (subst (λ n. IsTrue (is_ots_code n)) o_is o_ok),
-     ap (λ i. to_be_bytes w32 (lms_code_of lms) ++ to_be_bytes w32 (code_of ots) ++ i ++ root) id_is
-     ∙ ap (λ r. to_be_bytes w32 (lms_code_of lms) ++ to_be_bytes w32 (code_of ots) ++ take 16 (drop 8 bytes) ++ r) root_is
-     ∙ key_spelled bytes (lms_code_of lms) (code_of ots) long fits (l_same ∙ l_is) (o_same ∙ o_is))
+    let o_same : code_of ots ≡ o = ap code_of ots_is ∙ code_of-ots_of o o_ok in (
+      reads bytes long (subst (λ n. IsTrue (is_lms_code n)) l_is l_ok) (subst (λ n. IsTrue (is_ots_code n)) o_is o_ok),
+      ap (λ i. to_be_bytes w32 (lms_code_of lms) ++ to_be_bytes w32 (code_of ots) ++ i ++ root) id_is
+          ∙ ap (λ r. to_be_bytes w32 (lms_code_of lms) ++ to_be_bytes w32 (code_of ots) ++ take 16 (drop 8 bytes) ++ r) root_is
+          ∙ key_spelled bytes (lms_code_of lms) (code_of ots) long fits (l_same ∙ l_is) (o_same ∙ o_is),
+    )
 
 pub spelled_reads : (lms : LmsType) (ots : OtsType) (id root : List ℕ) → length id ≡ 16 → length root ≡ 32
     → IsTrue (key_reads (to_be_bytes w32 (lms_code_of lms) ++ to_be_bytes w32 (code_of ots) ++ id ++ root))
@@ -76,4 +77,4 @@ spelled_reads lms ots id root id_long root_long =
     let l_is : key_lms (to_be_bytes w32 (lms_code_of lms) ++ to_be_bytes w32 (code_of ots) ++ id ++ root) ≡ lms_code_of lms = from_be_bytes-to_be_bytes_4 (lms_code_of lms) (lms_code_fits lms) in
     let o_is : key_ots (to_be_bytes w32 (lms_code_of lms) ++ to_be_bytes w32 (code_of ots) ++ id ++ root) ≡ code_of ots = from_be_bytes-to_be_bytes_4 (code_of ots) (code_fits ots) in
     reads (to_be_bytes w32 (lms_code_of lms) ++ to_be_bytes w32 (code_of ots) ++ id ++ root) (simp length-append (omega arith))
-      (subst (λ n. IsTrue (is_lms_code n)) (sym l_is) (has_lms_code lms)) (subst (λ n. IsTrue (is_ots_code n)) (sym o_is) (has_ots_code ots))
+    (subst (λ n. IsTrue (is_lms_code n)) (sym l_is) (has_lms_code lms)) (subst (λ n. IsTrue (is_ots_code n)) (sym o_is) (has_ots_code ots))

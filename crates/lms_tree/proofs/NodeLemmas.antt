@@ -1,5 +1,5 @@
 -- The nodes by their recursion upwards.
-use Rattle.std.proofs.Common.{◌≡◌, ◌≢◌, ◌⊎◌, inl, inr, get_or, set, get_or-set_other, get_or-set_same, ℕ, zero, suc, ◌+◌, ◌-◌, ◌*◌, ◌/◌, ◌%◌, ◌^◌, ◌<◌, ◌≤◌, ◌++◌, List, length, take, drop, refl, ap, sym, ◌∙◌, arith, rules, nat_lt, true, false, Bool}
+use Rattle.std.proofs.Common.{◌≡◌, ◌≢◌, inl, inr, get_or, set, get_or-set_other, get_or-set_same, ℕ, zero, suc, ◌+◌, ◌-◌, ◌*◌, ◌^◌, ◌<◌, ◌≤◌, ◌++◌, List, length, take, refl, ap, sym, ◌∙◌, arith, rules, nat_lt, true, false}
 use Rattle.std.proofs.lemmas.Bool.Decides.{nat_tests}
 use Rattle.std.proofs.lemmas.Bool.{cases_lt}
 use Rattle.std.proofs.lemmas.List.{get_or-append_right, get_or_append_left, places}
@@ -46,11 +46,11 @@ within_more key (suc n) r le =
     let here : leaves_of key ≤ 2 * r * 2 ^ n = rw (← twice r (2 ^ n), ← pow-suc 2 n) le in
     let next : 2 * r * 2 ^ n ≤ (2 * r + 1) * 2 ^ n = mul-le-mul_right (2 ^ n) (omega arith) in
     elim (cases_lt r (leaves_of key)) [
-      inl lt ↦ within_inner key n r lt
-        ∙ ap (λ x. inner_node key.id r x (node_within key n (2 * r + 1))) (within_more key n (2 * r) here)
-        ∙ ap (λ x. inner_node key.id r (node_within key (suc n) (2 * r)) x) (within_more key n (2 * r + 1) (omega arith))
-        ∙ sym (within_inner key (suc n) r lt)
-    | inr ge ↦ within_leaf key (suc n) r ge ∙ sym (within_leaf key (suc (suc n)) r ge)
+      | inl lt ↦ within_inner key n r lt
+          ∙ ap (λ x. inner_node key.id r x (node_within key n (2 * r + 1))) (within_more key n (2 * r) here)
+          ∙ ap (λ x. inner_node key.id r (node_within key (suc n) (2 * r)) x) (within_more key n (2 * r + 1) (omega arith))
+          ∙ sym (within_inner key (suc n) r lt)
+      | inr ge ↦ within_leaf key (suc n) r ge ∙ sym (within_leaf key (suc (suc n)) r ge)
     ]
 
 pub node_leaf : (key : Secret) (r : ℕ) → leaves_of key ≤ r → node key r ≡ leaf_at key r
@@ -102,15 +102,15 @@ pub filled_more : (key : Secret) (nodes : List (List ℕ)) (s r : ℕ) (a b x : 
     → IsFilledFrom key r (set nodes r x)
 filled_more key nodes s r a b x filled s_is long pos lt x_is k d le k_lt =
     elim (cases_lt r k) [
-      inl more ↦ let ne : k ≢ r = omega arith in rw get_or-set_other (filled k d (omega arith) k_lt)
-    | inr here ↦
-        let k_is : k ≡ r = omega arith in
-        let within : r < length nodes = omega arith in
-        rw (k_is, get_or-set_same)
+      | inl more ↦ let ne : k ≢ r = omega arith in rw get_or-set_other (filled k d (omega arith) k_lt)
+      | inr here ↦
+          let k_is : k ≡ r = omega arith in
+          let within : r < length nodes = omega arith in
+          rw (k_is, get_or-set_same)
           (x_is
-           ∙ ap (λ y. inner_node key.id r y (get_or nodes (2 * r + 1) b)) (filled (2 * r) a (omega arith) (omega arith))
-           ∙ ap (λ y. inner_node key.id r (node key (2 * r)) y) (filled (2 * r + 1) b (omega arith) (omega arith))
-           ∙ sym (node_inner key r pos lt))
+          ∙ ap (λ y. inner_node key.id r y (get_or nodes (2 * r + 1) b)) (filled (2 * r) a (omega arith) (omega arith))
+          ∙ ap (λ y. inner_node key.id r (node key (2 * r)) y) (filled (2 * r + 1) b (omega arith) (omega arith))
+          ∙ sym (node_inner key r pos lt))
     ]
 
 -- ---- the laws

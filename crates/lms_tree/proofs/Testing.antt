@@ -1,7 +1,7 @@
 -- The test of a signature says what the standard's conditions say.
-use Rattle.std.proofs.Common.{◌≡◌, ℕ, ◌+◌, ◌*◌, ◌^◌, ◌<◌, ◌≤◌, ◌↔◌, List, length, take, drop, refl, sym, ap, subst, ◌∙◌, arith, rules, length-drop}
+use Rattle.std.proofs.Common.{◌≡◌, ℕ, ◌+◌, ◌*◌, ◌^◌, ◌<◌, ◌≤◌, List, length, take, drop, refl, sym, ap, subst, ◌∙◌, arith, rules, length-drop}
 use Rattle.std.specs.Prelude.{IsTrue, Bool, true, false, ◌&&◌, ◌==◌, nat_lt, nat_le, bytes_eq}
-use Rattle.std.proofs.lemmas.Bool.Decides.{Decides-eqb, Decides-ltb, nat_tests}
+use Rattle.std.proofs.lemmas.Bool.Decides.{Decides-eqb, Decides-ltb}
 use Rattle.std.proofs.lemmas.Slice.Eq.{bytes_eq-Decides}
 use Rattle.std.proofs.lemmas.List.{places, take-take}
 use Rattle.std.specs.Int.{w32, from_be_bytes}
@@ -38,34 +38,34 @@ pub verifies_tells : (key text sig : List ℕ) → IsTrue (verifies key text sig
 unfolding verifies
 verifies_tells key text sig is =
     let parts : IsTrue (key_reads key)
-          × IsTrue (nat_le 8 (length sig))
-          × IsTrue (number_at sig 4 == key_ots key)
-          × IsTrue (nat_le (8 + sig_len_of (key_type key)) (length sig))
-          × IsTrue (number_at sig (4 + sig_len_of (key_type key)) == key_lms key)
-          × IsTrue (nat_lt (leaf_of sig) (2 ^ key_height key))
-          × IsTrue (length sig == 8 + sig_len_of (key_type key) + 32 * key_height key)
-          × IsTrue (bytes_eq (root_candidate (key_type key) (key_height key) (key_id key) text sig) (key_root key))
-      = all_true _ _ _ _ _ _ _ _ is in
+    × IsTrue (nat_le 8 (length sig))
+    × IsTrue (number_at sig 4 == key_ots key)
+    × IsTrue (nat_le (8 + sig_len_of (key_type key)) (length sig))
+    × IsTrue (number_at sig (4 + sig_len_of (key_type key)) == key_lms key)
+    × IsTrue (nat_lt (leaf_of sig) (2 ^ key_height key))
+    × IsTrue (length sig == 8 + sig_len_of (key_type key) + 32 * key_height key)
+    × IsTrue (bytes_eq (root_candidate (key_type key) (key_height key) (key_id key) text sig) (key_root key))
+    = all_true _ _ _ _ _ _ _ _ is in
     record {
       key_reads = parts.0;
       ots_code = (Decides-eqb _ _).0 parts.2;
       lms_code = (Decides-eqb _ _).0 parts.4;
       leaf = (Decides-ltb _ _).0 parts.5;
       long = (Decides-eqb _ _).0 parts.6;
-      root = (bytes_eq-Decides _ _).0 parts.7
+      root = (bytes_eq-Decides _ _).0 parts.7;
     }
 
 pub verified : (key text sig : List ℕ) → Verifies key text sig → IsTrue (verifies key text sig)
 unfolding verifies
 verified key text sig v =
     none_false _ _ _ _ _ _ _ _ v.key_reads
-      (le_true 8 (length sig) (omega (arith, v.long)))
-      ((Decides-eqb _ _).1 v.ots_code)
-      (le_true (8 + sig_len_of (key_type key)) (length sig) (omega (arith, v.long)))
-      ((Decides-eqb _ _).1 v.lms_code)
-      ((Decides-ltb _ _).1 v.leaf)
-      ((Decides-eqb _ _).1 v.long)
-      ((bytes_eq-Decides _ _).1 v.root)
+    (le_true 8 (length sig) (omega (arith, v.long)))
+    ((Decides-eqb _ _).1 v.ots_code)
+    (le_true (8 + sig_len_of (key_type key)) (length sig) (omega (arith, v.long)))
+    ((Decides-eqb _ _).1 v.lms_code)
+    ((Decides-ltb _ _).1 v.leaf)
+    ((Decides-eqb _ _).1 v.long)
+    ((bytes_eq-Decides _ _).1 v.root)
 
 pub verifies_iff : TestIsTheStatement
 verifies_iff key text sig = (verifies_tells key text sig, verified key text sig)
@@ -99,7 +99,7 @@ one_time_form key sig is long =
     let code : code_of (key_type key) ≡ key_ots key = code_of-ots_of (key_ots key) (reads_tells key is).2 in
     let front : take 4 (ots_sig (key_type key) sig) ≡ take 4 (drop 4 sig) = take_less 4 (sig_len_of (key_type key)) (drop 4 sig) (omega arith) in
     let room : length (ots_sig (key_type key) sig) ≡ sig_len_of (key_type key) =
-      take_long (sig_len_of (key_type key)) (drop 4 sig) (omega (arith, drop_long 4 (4 + sig_len_of (key_type key) + 32 * key_height key) sig (omega arith))) in
+    take_long (sig_len_of (key_type key)) (drop 4 sig) (omega (arith, drop_long 4 (4 + sig_len_of (key_type key) + 32 * key_height key) sig (omega arith))) in
     ((λ form. sym (ap (from_be_bytes w32) front) ∙ form.1 ∙ code), λ same. (room, ap (from_be_bytes w32) front ∙ same ∙ sym code))
 
 -- what the code tests, for a one-time type and a height
@@ -117,7 +117,7 @@ accepts_tells key text sig reads a = record {
   lms_code = a.lms_code;
   leaf = a.leaf;
   long = a.long;
-  root = a.root
+  root = a.root;
 }
 
 verifies_accepts : (key text sig : List ℕ) → Verifies key text sig → Accepts (key_type key) (key_height key) key text sig
@@ -126,7 +126,7 @@ verifies_accepts key text sig v = record {
   form = (one_time_form key sig v.key_reads v.long).1 v.ots_code;
   lms_code = v.lms_code;
   leaf = v.leaf;
-  root = v.root
+  root = v.root;
 }
 
 -- a result that says what the code tests is the test's
@@ -134,11 +134,11 @@ pub same_as_test : (r : Bool) (t : OtsType) (h : ℕ) (key text sig : List ℕ) 
     → (IsTrue r → Accepts t h key text sig) → (Accepts t h key text sig → IsTrue r) → r ≡ verifies key text sig
 same_as_test true t h key text sig t_is h_is reads to from =
     let a : Accepts (key_type key) (key_height key) key text sig =
-      subst (λ t'. Accepts t' (key_height key) key text sig) t_is (subst (λ h'. Accepts t h' key text sig) h_is (to refl)) in
+    subst (λ t'. Accepts t' (key_height key) key text sig) t_is (subst (λ h'. Accepts t h' key text sig) h_is (to refl)) in
     sym (verified key text sig (accepts_tells key text sig reads a))
 same_as_test false t h key text sig t_is h_is reads to from =
     sym (not_true (verifies key text sig) (λ is.
-      let a : Accepts t h key text sig =
-        subst (λ t'. Accepts t' h key text sig) (sym t_is) (subst (λ h'. Accepts (key_type key) h' key text sig) (sym h_is) (verifies_accepts key text sig (verifies_tells key text sig is))) in
-      let never : false ≡ true = from a in
-      cc))
+    let a : Accepts t h key text sig =
+    subst (λ t'. Accepts t' h key text sig) (sym t_is) (subst (λ h'. Accepts (key_type key) h' key text sig) (sym h_is) (verifies_accepts key text sig (verifies_tells key text sig is))) in
+    let never : false ≡ true = from a in
+    cc))

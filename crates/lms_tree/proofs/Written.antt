@@ -1,5 +1,5 @@
 -- The parts of a signature, put together.
-use Rattle.std.proofs.Common.{◌≡◌, ℕ, ◌+◌, ◌-◌, ◌*◌, ◌^◌, ◌<◌, ◌≤◌, ◌++◌, List, length, take, refl, ap, sym, ◌∙◌, subst, arith, rules}
+use Rattle.std.proofs.Common.{◌≡◌, ℕ, ◌+◌, ◌-◌, ◌*◌, ◌^◌, ◌<◌, ◌++◌, List, length, take, refl, ap, sym, ◌∙◌, subst, arith, rules}
 use Rattle.std.proofs.lemmas.List.{take_all, places}
 use Rattle.std.proofs.lemmas.Slice.{take-put_mid}
 use borrow.Rule.Slice.PartMut.{put_mid}
@@ -21,7 +21,7 @@ written a key leaf text nodes n m before path is holds lt room n_is m_is head_is
     let lt_a : leaf < leaves_of a = subst (λ k. leaf < leaves_of k) (sym is) lt in
     let room_a : length before ≡ signature_len a = subst (λ k. length before ≡ signature_len k) (sym is) room in
     let path_node : path ≡ path_from a (leaves_of a + leaf) (levels_of a.height) =
-      path_is ∙ path_stands a nodes (leaves_of a + leaf) (levels_of a.height) holds (omega arith) (omega arith) (omega arith) in
+    path_is ∙ path_stands a nodes (leaves_of a + leaf) (levels_of a.height) holds (omega arith) (omega arith) (omega arith) in
     let long : length path ≡ 32 * levels_of a.height = ap length path_node ∙ path_long a (leaves_of a + leaf) (levels_of a.height) in
     let total : length (put_mid n m before path) ≡ n + length path = search (rules, places) in
     let split : take (n + length path) (put_mid n m before path) ≡ take n before ++ path = take-put_mid n m before path (n + length path) refl (omega arith) in

@@ -1,5 +1,5 @@
 -- What holds of the definitions alone.
-use Rattle.std.specs.Prelude.{◌≡◌, ℕ, ◌+◌, ◌-◌, ◌*◌, ◌<◌, ◌≤◌, ◌↔◌, List, length, Bool, false, IsTrue}
+use Rattle.std.specs.Prelude.{◌≡◌, ℕ, ◌+◌, ◌-◌, ◌*◌, ◌<◌, ◌≤◌, ◌↔◌, List, length, false, IsTrue}
 use Rattle.lms_ots.specs.Signing.{one_time_key}
 use Rattle.lms_tree.specs.PublicKey.{key_reads}
 use Rattle.lms_tree.specs.Tree.{leaf_node, inner_node}

@@ -30,7 +30,7 @@ leaf_at key r = leaf_node key.id r (one_time_key key.ots key.id (r - leaves_of k
 unfoldable pub node_within : Secret → ℕ → ℕ → List ℕ
 node_within key zero r = leaf_at key r
 node_within key (suc n) r =
-  if nat_lt r (leaves_of key) then inner_node key.id r (node_within key n (2 * r)) (node_within key n (2 * r + 1)) else leaf_at key r
+    if nat_lt r (leaves_of key) then inner_node key.id r (node_within key n (2 * r)) (node_within key n (2 * r + 1)) else leaf_at key r
 
 -- T[r]: no node from 1 on has more than h levels below it
 unfoldable pub node : Secret → ℕ → List ℕ

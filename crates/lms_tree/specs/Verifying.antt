@@ -31,17 +31,17 @@ verifies key text sig =
     let h = key_height key in
     -- algorithm 6, steps 1 and 2: the key is one
     key_reads key
-      -- algorithm 6a, steps 1 and 2c: the one-time code is the key's
-      && nat_le 8 (length sig)
-      && (number_at sig 4 == key_ots key)
-      -- steps 2d and 2g: the LMS code is the key's
-      && nat_le (8 + sig_len_of t) (length sig)
-      && (number_at sig (4 + sig_len_of t) == key_lms key)
-      -- step 2i: the leaf is one of the tree's, and the length is exact
-      && nat_lt (leaf_of sig) (2 ^ h)
-      && (length sig == 8 + sig_len_of t + 32 * h)
-      -- algorithm 6, steps 3 and 4: the candidate is the root
-      && bytes_eq (root_candidate t h (key_id key) text sig) (key_root key)
+    -- algorithm 6a, steps 1 and 2c: the one-time code is the key's
+    && nat_le 8 (length sig)
+    && (number_at sig 4 == key_ots key)
+    -- steps 2d and 2g: the LMS code is the key's
+    && nat_le (8 + sig_len_of t) (length sig)
+    && (number_at sig (4 + sig_len_of t) == key_lms key)
+    -- step 2i: the leaf is one of the tree's, and the length is exact
+    && nat_lt (leaf_of sig) (2 ^ h)
+    && (length sig == 8 + sig_len_of t + 32 * h)
+    -- algorithm 6, steps 3 and 4: the candidate is the root
+    && bytes_eq (root_candidate t h (key_id key) text sig) (key_root key)
 
 -- The signature of the text verifies under the key, as one statement.
 pub record Verifies (key text sig : List ℕ) : Type 0 where

@@ -46,17 +46,20 @@ fn fill_leaves_by<R: Threads + Sync>(
     requires long { length nodes.old ≡ 2 ^ levels_of height }
     ensures { HoldsLeaves (record { height = height; ots = t; id = id.now; seed = seed.now }) nodes.new }
 {
-    thread::for_each_mut(rt, nodes, workers, &|i, node| *node = leaf(t, height, id, seed, i as u32));
+    thread::for_each_mut(
+        rt,
+        nodes,
+        workers,
+        &|i, node| *node = leaf(t, height, id, seed, i as u32),
+    );
 }
 
 // Fills in the nodes above the leaves.
 #[tactic(auto, using(crate::proofs::Heights::heights))]
 fn fill_inner(t: OtsType, height: Height, id: &[u8; 16], seed: &[u8; 32], nodes: &mut [[u8; 32]])
     requires long { length nodes.old ≡ 2 * 2 ^ levels_of height }
-    requires leaves {
-        IsFilledFrom (record { height = height; ots = t; id = id.now; seed = seed.now })
-            (2 ^ levels_of height) nodes.old
-    }
+    requires leaves { IsFilledFrom (record { height = height; ots = t; id = id.now; seed = seed.now })
+        (2 ^ levels_of height) nodes.old }
     ensures { HoldsNodes (record { height = height; ots = t; id = id.now; seed = seed.now }) nodes.new }
 {
     let mut r = height.leaves();
@@ -70,7 +73,13 @@ fn fill_inner(t: OtsType, height: Height, id: &[u8; 16], seed: &[u8; 32], nodes:
 
 // Fills in all nodes, each at its number.
 #[tactic(auto, using(crate::proofs::Heights::heights))]
-pub(crate) fn fill(t: OtsType, height: Height, id: &[u8; 16], seed: &[u8; 32], nodes: &mut [[u8; 32]])
+pub(crate) fn fill(
+    t: OtsType,
+    height: Height,
+    id: &[u8; 16],
+    seed: &[u8; 32],
+    nodes: &mut [[u8; 32]],
+)
     requires { length nodes.old ≡ 2 * 2 ^ levels_of height }
     ensures { HoldsNodes (record { height = height; ots = t; id = id.now; seed = seed.now }) nodes.new }
 {
@@ -93,6 +102,14 @@ pub(crate) fn fill_by<R: Threads + Sync>(
     requires long { length nodes.old ≡ 2 * 2 ^ levels_of height }
     ensures { HoldsNodes (record { height = height; ots = t; id = id.now; seed = seed.now }) nodes.new }
 {
-    fill_leaves_by(rt, workers, t, height, id, seed, &mut nodes[height.leaves() as usize..]);
+    fill_leaves_by(
+        rt,
+        workers,
+        t,
+        height,
+        id,
+        seed,
+        &mut nodes[height.leaves() as usize..],
+    );
     fill_inner(t, height, id, seed, nodes);
 }

@@ -6,6 +6,7 @@ use lms_ots::tagged;
 use sha2::{Digest, Sha256};
 
 const D_LEAF: u16 = 0x8282;
+
 const D_INTR: u16 = 0x8383;
 
 // The node `r` over a leaf's one-time public key.

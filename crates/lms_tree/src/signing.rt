@@ -20,13 +20,19 @@ fn put_one_time(t: OtsType, id: &[u8; 16], leaf: u32, seed: &[u8; 32], text: &[u
 }
 
 // Writes all but the path.
-pub(crate) fn put_head(t: OtsType, height: Height, id: &[u8; 16], leaf: u32, seed: &[u8; 32], text: &[u8], out: &mut [u8])
+pub(crate) fn put_head(
+    t: OtsType,
+    height: Height,
+    id: &[u8; 16],
+    leaf: u32,
+    seed: &[u8; 32],
+    text: &[u8],
+    out: &mut [u8],
+)
     requires { 8 + sig_len_of t ≤ length out.old }
-    ensures {
-        take (8 + sig_len_of t) out.new
-            ≡ to_be_bytes w32 leaf ++ ots_signature t id.now leaf seed.now text.now
-            ++ to_be_bytes w32 (height_code height)
-    }
+    ensures { take (8 + sig_len_of t) out.new
+        ≡ to_be_bytes w32 leaf ++ ots_signature t id.now leaf seed.now text.now
+        ++ to_be_bytes w32 (height_code height) }
 {
     put(out, 0, &leaf.to_be_bytes());
     put_one_time(t, id, leaf, seed, text, out);

@@ -40,14 +40,18 @@ fn climb(id: &[u8; 16], path: &[u8], r: u32, node: [u8; 32], height: u32) -> [u8
 
 // Tc, the candidate for the root, unless the one-time signature has another type.
 #[tactic(auto, unfolding(crate::specs::Verifying::root_candidate))]
-fn root_candidate(t: OtsType, height: u32, id: &[u8; 16], text: &[u8], sig: &[u8]) -> Option<[u8; 32]>
+fn root_candidate(
+    t: OtsType,
+    height: u32,
+    id: &[u8; 16],
+    text: &[u8],
+    sig: &[u8],
+) -> Option<[u8; 32]>
     requires long { length sig.now ≡ 8 + sig_len_of t + 32 * height }
     requires bound { height ≤ 25 }
     requires leaf { leaf_of sig.now < 2 ^ height }
-    ensures {
-        SomeIff result (IsOtsSignature t (ots_sig t sig.now))
-            (root_candidate t height id.now text.now sig.now)
-    }
+    ensures { SomeIff result (IsOtsSignature t (ots_sig t sig.now))
+        (root_candidate t height id.now text.now sig.now) }
 {
     let ots_end = 4 + t.sig_len();
     let leaf = number_at(sig, 0);

@@ -3,6 +3,7 @@ ghost use Rattle.std.specs.Prelude.{◌≡◌, IfOk};
 
 use super::*;
 use crate::verifying::verify;
+use cp_bytes::put;
 use sha2::{Digest, Sha256};
 use std::test::Fail;
 
@@ -48,19 +49,46 @@ fn agrees_with_other_implementations(rt: HostRuntime) -> Result<(), Fail> {
     Ok(())
 }
 
+// The node of the path at this level.
+fn path_at(signature: &[u8; 1292], level: usize) -> Option<[u8; 32]> {
+    let at = level.checked_mul(32)?.checked_add(1132)?;
+    let part = signature.get(at..)?.get(..32)?;
+    let mut out = [0u8; 32];
+    out.copy_from_slice(part);
+    Some(out)
+}
+
+fn shorter(signature: &[u8; 1292]) -> [u8; 1291] {
+    let mut out = [0u8; 1291];
+    out.copy_from_slice(&signature[..1291]);
+    out
+}
+
+fn longer(signature: &[u8; 1292]) -> [u8; 1293] {
+    let mut out = [0u8; 1293];
+    put(&mut out, 0, signature);
+    out
+}
+
 #[test]
 fn refuses_what_was_changed(rt: HostRuntime) -> Result<(), Fail> {
     let key = small_key(rt.alloc())?;
     let public = key.public();
-    let mut signature = [0u8; 1293];
-    key.sign_into(3, b"abc", &mut signature[..1292]);
-    assert!(rt; verify(&public, b"abc", &signature[..1292]));
-    assert!(rt; !verify(&public, b"abd", &signature[..1292]));
-    assert!(rt; !verify(&public, b"abc", &signature[..1291]), "one byte less");
-    assert!(rt; !verify(&public, b"abc", &signature), "one byte more");
+    let mut signature = [0u8; 1292];
+    key.sign_into(3, b"abc", &mut signature);
+    assert!(rt; verify(&public, b"abc", &signature));
+    assert!(rt; !verify(&public, b"abd", &signature), "another text");
+    assert!(rt;
+        !verify(&public, b"abc", &shorter(&signature)),
+        "one byte less"
+    );
+    assert!(rt;
+        !verify(&public, b"abc", &longer(&signature)),
+        "one byte more"
+    );
     assert!(rt; !verify(&public, b"abc", &[]), "no byte");
     signature[3] = 32;
-    assert!(rt; !verify(&public, b"abc", &signature[..1292]), "leaf 32");
+    assert!(rt; !verify(&public, b"abc", &signature), "leaf 32");
     Ok(())
 }
 
@@ -68,12 +96,10 @@ fn refuses_what_was_changed(rt: HostRuntime) -> Result<(), Fail> {
 #[test]
 fn path_has_the_siblings(rt: HostRuntime) -> Result<(), Fail> {
     let key = small_key(rt.alloc())?;
-    assert_eq!(rt; key.nodes.len(), 64);
     let mut signature = [0u8; 1292];
     key.sign_into(3, b"abc", &mut signature);
-    for (i, r) in [34, 16, 9, 5, 3].iter().enumerate() {
-        let at = 1132 + 32 * i;
-        assert_eq!(rt; &signature[at..at + 32], key.nodes[*r].as_slice(), "at {i}");
+    for (i, r) in [(0, 34), (1, 16), (2, 9), (3, 5), (4, 3)] {
+        assert_eq!(rt; path_at(&signature, i), key.nodes.get(r).copied(), "at {i}");
     }
     Ok(())
 }
@@ -81,8 +107,14 @@ fn path_has_the_siblings(rt: HostRuntime) -> Result<(), Fail> {
 // Signatures of 9,004 bytes at H15/W1 and 2,508 at H10/W4.
 #[test]
 fn lengths_are_the_standards(rt: HostRuntime) {
-    assert_eq!(rt; 8 + OtsType::W1.sig_len() + 32 * Height::H15.levels() as usize, 9004);
-    assert_eq!(rt; 8 + OtsType::W4.sig_len() + 32 * Height::H10.levels() as usize, 2508);
+    assert_eq!(rt;
+        8 + OtsType::W1.sig_len() + 32 * Height::H15.levels() as usize,
+        9004
+    );
+    assert_eq!(rt;
+        8 + OtsType::W4.sig_len() + 32 * Height::H10.levels() as usize,
+        2508
+    );
 }
 
 #[test]

@@ -8,7 +8,7 @@ invariant-loop-bytes g l = record {
   so_far : IsTrue (g.F.Folder.tells l.folder) → IsFrontOf (g.F.Folder.file l.folder l.name) l.bytes.items;
   never_falls : g.F.Folder.faults l.initial.folder ≤ g.F.Folder.faults l.folder;
   tells : g.F.Folder.tells l.folder ≡ g.F.Folder.tells l.initial.folder;
-  kept : (other : List ℕ) → g.F.Folder.file l.folder other ≡ g.F.Folder.file l.initial.folder other
+  kept : (other : List ℕ) → g.F.Folder.file l.folder other ≡ g.F.Folder.file l.initial.folder other;
 }
 
 abbrev pub decreases-loop-bytes : goal.decreases-loop-bytes

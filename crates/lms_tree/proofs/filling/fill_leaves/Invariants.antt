@@ -6,4 +6,4 @@ use Rattle.lms_tree.proofs.filling.fill_leaves.Given as goal
 
 abbrev pub invariant-loop-i : goal.invariant-loop-i
 invariant-loop-i l =
-  (k : ℕ) (d : List ℕ) → k < l.i → get_or l.nodes k d ≡ leaf_node l.id (2 ^ levels_of l.height + k) (one_time_key l.t l.id k l.seed)
+    (k : ℕ) (d : List ℕ) → k < l.i → get_or l.nodes k d ≡ leaf_node l.id (2 ^ levels_of l.height + k) (one_time_key l.t l.id k l.seed)

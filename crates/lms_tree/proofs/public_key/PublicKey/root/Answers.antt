@@ -1,4 +1,4 @@
-use Rattle.std.proofs.Common.{◌≡◌, length, sym, arith, rules}
+use Rattle.std.proofs.Common.{◌≡◌, length, sym, rules}
 use Rattle.std.proofs.lemmas.List.{drop_at, places}
 use Rattle.lms_tree.proofs.public_key.PublicKey.root.Goals as goal
 

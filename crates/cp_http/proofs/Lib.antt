@@ -1,0 +1,6 @@
+pub mod Cases
+pub mod HeadLemmas
+pub mod Digits
+pub mod Parts
+pub mod Decimals
+pub mod Phrases

@@ -1,0 +1,25 @@
+//! Heads of HTTP/1.1 requests and whole responses: what a connection sends and gets, in this
+//! project's profile of RFC 9112. Nothing here reads or writes a connection, and nothing but
+//! `response` takes memory.
+#![tactic(auto)]
+
+mod allows;
+mod fields;
+mod head_reads;
+mod heads;
+mod reading;
+mod responses;
+mod short_texts;
+#[cfg(test)]
+mod tests;
+
+pub use allows::Allow;
+pub use head_reads::HeadRead;
+pub use heads::Head;
+pub use reading::{head_end, parse_head, read_head};
+pub use responses::{response, response_head};
+pub use short_texts::ShortText;
+
+/// There is no memory left for what was asked: std's `AllocError`, under the name that this house
+/// uses.
+pub use std::alloc::AllocError as OutOfMemory;

@@ -1,0 +1,5 @@
+pub mod Extent
+pub mod Pages
+pub mod History
+pub mod Chain
+pub mod Layout

@@ -1,0 +1,10 @@
+pub mod Routes
+pub mod Refusals
+pub mod Rejections
+pub mod Replies
+pub mod Responses
+pub mod Fronts
+pub mod Sessions
+pub mod Traffic
+pub mod Endings
+pub mod Laws

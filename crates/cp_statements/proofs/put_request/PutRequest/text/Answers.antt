@@ -1,0 +1,8 @@
+use Rattle.cp_bytes.specs.Fields.{spell}
+use Rattle.cp_statements.specs.PutRequest.{put_request_text}
+use Rattle.cp_statements.proofs.put_request.PutRequest.text.Goals as goal
+
+-- the pieces that were joined are the fields
+pub returns : goal.returns
+unfolding put_request_text spell
+returns c = rw (c.to_be_bytes.ensures, c.to_be_bytes-2.ensures, c.to_be_bytes-3.ensures, c.to_be_bytes-4.ensures, c.to_be_bytes-5.ensures) at c.joined.ensures

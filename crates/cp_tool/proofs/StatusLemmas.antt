@@ -1,0 +1,250 @@
+-- What the statuses say.
+use Rattle.std.proofs.Common.{◌≡◌, ◌⊎◌, inl, inr, ℕ, ◌<◌, ◌≤◌, Bool, true, false, cond, List, Option, Some, None, Result, Ok, Err, length, refl, sym, ap, ◌∙◌, subst, arith}
+use Rattle.std.specs.Prelude.{IsTrue, nat_lt, nat_eq}
+use Rattle.std.proofs.lemmas.Bool.{le-ltb}
+use Rattle.cp_bytes.specs.Fields.{◌>>=◌}
+use Rattle.cp_outside.specs.Causes.{Rose}
+use Rattle.lms_ots.specs.declared.ots_type.OtsType.{OtsType}
+use Rattle.lms_tree.specs.declared.height.Height.{Height}
+use Rattle.lms_tree.specs.PublicKey.{key_reads}
+use Rattle.lms_tree.specs.Verifying.{verifies}
+use Rattle.lms_tree.specs.Secret.{public_of}
+use Rattle.cp_evidence.specs.Evidence.{Evidence, evidence_of, kind_of}
+use Rattle.cp_evidence.specs.Conditions.{Convicts, tried}
+use Rattle.cp_judge.specs.Judging.{judgement_of, judgement_on, judgement_by, IsGuilty}
+use Rattle.cp_judge.specs.declared.judgement.Judgement.{Judgement}
+use Rattle.cp_judge.specs.declared.judgement.Judgement.TheVariants.{BadKey, Malformed, NotEvidence, Guilty}
+use Rattle.cp_judge.proofs.Guilt.{guilty}
+use Rattle.cp_tool.specs.Commands.{Command}
+use Rattle.cp_tool.specs.Commands.Command.{Judge, Verify, Keygen}
+use Rattle.cp_tool.specs.Endings.{Outcome, judged, usage, short_seed, unprinted_status}
+use Rattle.cp_tool.specs.Reports.{Reports}
+use Rattle.cp_tool.specs.Runs.{Files, RunEnds, JudgeEnds, VerifyEnds, KeygenEnds, KeyEnds, JudgeStatus, Stops, input_of, ending_of, judge_ending, verify_ending, verified, key_made, secret_in}
+
+-- ---- no ending of a command but `usage` has the status 2
+
+abbrev Not2 : Outcome → Type 0
+Not2 ending = ending.status ≡ 2 → ⊥
+
+judged_not2 : (j : Judgement) → Not2 (judged j)
+judged_not2 BadKey e = omega (arith, e)
+judged_not2 (Malformed at) e = omega (arith, e)
+judged_not2 (NotEvidence kind condition) e = omega (arith, e)
+judged_not2 (Guilty kind) e = omega (arith, e)
+
+verified_not2 : (key text signature : List ℕ) → Not2 (verified key text signature)
+verified_not2 key text signature = go (key_reads key) (verifies key text signature) refl refl
+  where
+    go : (reads good : Bool) → key_reads key ≡ reads → verifies key text signature ≡ good → Not2 (verified key text signature)
+    go true true r g = rw (r, g) (λ e. omega (arith, e))
+    go true false r g = rw (r, g) (λ e. omega (arith, e))
+    go false good r g = rw r (λ e. omega (arith, e))
+
+-- a refused input ends with 3
+abbrev Refuses3 : Result (List ℕ) Outcome → Type 0
+Refuses3 (Ok bytes) = Unit {0}
+Refuses3 (Err ending) = ending.status ≡ 3
+
+refuses_3 : (content : Option (List ℕ)) (name : List ℕ) (limit : ℕ) → Refuses3 (input_of content name limit)
+refuses_3 None name limit = refl
+refuses_3 (Some bytes) name limit = go (nat_lt limit (length bytes)) refl
+  where
+    go : (long : Bool) → nat_lt limit (length bytes) ≡ long → Refuses3 (input_of (Some bytes) name limit)
+    go true e = rw e refl
+    go false e = rw e tt
+
+-- a step that refuses with 3, before steps that do not end with 2
+step_not2 : (first : Result (List ℕ) Outcome) (then : List ℕ → Result Outcome Outcome) → Refuses3 first → ((bytes : List ℕ) → Not2 (ending_of (then bytes)))
+    → Not2 (ending_of (first >>= then))
+step_not2 (Ok bytes) then three others = others bytes
+step_not2 (Err ending) then three others = λ e. omega (arith, e, three)
+
+judge_not2 : (kf : Option (List ℕ)) (k : List ℕ) (ef : Option (List ℕ)) (e : List ℕ) → Not2 (judge_ending kf k ef e)
+judge_not2 kf k ef e =
+    step_not2 (input_of kf k 56) _ (refuses_3 kf k 56) (λ key. step_not2 (input_of ef e 536870912) _ (refuses_3 ef e 536870912) (λ evidence. judged_not2 (judgement_of key evidence)))
+
+verify_not2 : (kf : Option (List ℕ)) (k : List ℕ) (tf : Option (List ℕ)) (t : List ℕ) (sf : Option (List ℕ)) (s : List ℕ) → Not2 (verify_ending kf k tf t sf s)
+verify_not2 kf k tf t sf s =
+    step_not2 (input_of kf k 56) _ (refuses_3 kf k 56) (λ key. step_not2 (input_of tf t 1048576) _ (refuses_3 tf t 1048576)
+    (λ text. step_not2 (input_of sf s 16384) _ (refuses_3 sf s 16384) (λ signature. verified_not2 key text signature)))
+
+stops_not2 : (before now : ℕ) (ending : Outcome) → Stops before now ending → Not2 ending
+stops_not2 before now ending (inl fault) e = omega (arith, e, ap (λ o. o.status) fault.0)
+stops_not2 before now ending (inr memory) e = omega (arith, e, ap (λ o. o.status) memory)
+
+same_not2 : (a b : Outcome) → a ≡ b → Not2 b → Not2 a
+same_not2 a b same not e = not (sym (ap (λ o. o.status) same) ∙ e)
+
+key_not2 : (made : Result (List ℕ) Outcome) (out : List ℕ) (old new : Files) (ending : Outcome) → Refuses3 made → KeyEnds made out old new ending → Not2 ending
+key_not2 (Ok key) out old new ending three ends = same_not2 _ _ ends.0 (λ e. omega (arith, e))
+key_not2 (Err refusal) out old new ending three ends = same_not2 _ _ ends.0 (λ e. omega (arith, e, three))
+
+made_refuses_3 : (sf : Option (List ℕ)) (s : List ℕ) (height : Height) (ots : OtsType) → Refuses3 (key_made sf s height ots)
+made_refuses_3 sf s height ots = go (input_of sf s 48) refl (refuses_3 sf s 48)
+  where
+    go : (r : Result (List ℕ) Outcome) → input_of sf s 48 ≡ r → Refuses3 r → Refuses3 (key_made sf s height ots)
+    go (Err ending) is three = rw is three
+    go (Ok bytes) is three = rw is (short (nat_lt (length bytes) 48) refl)
+      where
+        short : (b : Bool) → nat_lt (length bytes) 48 ≡ b → Refuses3 (cond b (Err short_seed) (Ok (public_of (secret_in height ots bytes))))
+        short true e = refl
+        short false e = tt
+
+-- only the words of no command end with 2
+pub run_2 : (command : Option Command) (old new : Files) (ending : Outcome) → RunEnds command old new ending → ending.status ≡ 2 → command ≡ None
+run_2 None old new ending ends e = refl
+run_2 (Some (Judge k v)) old new ending ends e = absurd (judge_case ends.ends e)
+  where
+    judge_case : (ending ≡ judge_ending ends.key_file k ends.evidence_file v) ⊎ Stops old.faults new.faults ending → Not2 ending
+    judge_case (inl same) = same_not2 _ _ same (judge_not2 ends.key_file k ends.evidence_file v)
+    judge_case (inr stops) = stops_not2 _ _ ending stops
+run_2 (Some (Verify k t s)) old new ending ends e = absurd (verify_case ends.ends e)
+  where
+    verify_case : (ending ≡ verify_ending ends.key_file k ends.text_file t ends.signature_file s) ⊎ Stops old.faults new.faults ending → Not2 ending
+    verify_case (inl same) = same_not2 _ _ same (verify_not2 ends.key_file k ends.text_file t ends.signature_file s)
+    verify_case (inr stops) = stops_not2 _ _ ending stops
+run_2 (Some (Keygen s height ots out)) old new ending ends e = absurd (keygen_case ends.ends e)
+  where
+    keygen_case : KeyEnds (key_made ends.seed_file s height ots) out old new ending ⊎ Stops old.faults new.faults ending → Not2 ending
+    keygen_case (inl made) = key_not2 (key_made ends.seed_file s height ots) out old new ending (made_refuses_3 ends.seed_file s height ots) made
+    keygen_case (inr stops) = stops_not2 _ _ ending stops
+
+-- ---- the answered status
+
+abbrev Reported : Option (List ℕ) → Option (List ℕ) → ℕ → ℕ → Outcome → ℕ → Type 0
+Reported held now before after ending status = Reports held now before after ending status
+
+unprinted_high : (ending : Outcome) → (unprinted_status ending ≡ 4) ⊎ (unprinted_status ending ≡ 5)
+unprinted_high ending = go (nat_eq ending.status 5) refl
+  where
+    go : (five : Bool) → nat_eq ending.status 5 ≡ five → (unprinted_status ending ≡ 4) ⊎ (unprinted_status ending ≡ 5)
+    go true e = inr (rw e refl)
+    go false e = inl (rw e refl)
+
+not_low : (a n : ℕ) → (a ≡ 4) ⊎ (a ≡ 5) → n < 4 → a ≡ n → ⊥
+not_low a n (inl four) low e = omega (arith, four, low, e)
+not_low a n (inr five) low e = omega (arith, five, low, e)
+
+-- a status below 4 is the ending's
+printed_status : (held now : Option (List ℕ)) (before after : ℕ) (ending : Outcome) (status : ℕ) → Reports held now before after ending status → status < 4 → ending.status ≡ status
+printed_status held now before after ending status (inl prints) low = sym prints.answers
+printed_status held now before after ending status (inr fails) low = absurd (not_low (unprinted_status ending) status (unprinted_high ending) low (sym fails.answers))
+
+pub status_2 : (command : Option Command) (old new : Files) (ending : Outcome) (held now : Option (List ℕ)) (before after status : ℕ) → RunEnds command old new ending
+    → Reports held now before after ending status → status ≡ 2 → command ≡ None
+status_2 command old new ending held now before after status ends reports e =
+    run_2 command old new ending ends (printed_status held now before after ending status reports (omega (arith, e)) ∙ e)
+
+pub no_command_2 : (command : Option Command) (old new : Files) (ending : Outcome) (held now : Option (List ℕ)) (before after status : ℕ) → RunEnds command old new ending
+    → Reports held now before after ending status → command ≡ None → (status ≡ 2) ⊎ ((status ≡ 4) × Rose before after)
+no_command_2 command old new ending held now before after status ends reports none = go reports
+  where
+    is_usage : ending ≡ usage
+    is_usage = (subst (λ c. RunEnds c old new ending) none ends).0
+
+    go : Reports held now before after ending status → (status ≡ 2) ⊎ ((status ≡ 4) × Rose before after)
+    go (inl prints) = inl (prints.answers ∙ ap (λ o. o.status) is_usage)
+    go (inr fails) = inr (fails.answers ∙ ap unprinted_status is_usage, fails.cause)
+
+-- ---- judge
+
+input_within : (bytes name : List ℕ) (limit : ℕ) → length bytes ≤ limit → input_of (Some bytes) name limit ≡ Ok bytes
+input_within bytes name limit within = rw (le-ltb limit (length bytes) within) refl
+
+judged_0 : (j : Judgement) → (judged j).status ≡ 0 → IsGuilty j
+judged_0 BadKey e = omega (arith, e)
+judged_0 (Malformed at) e = omega (arith, e)
+judged_0 (NotEvidence kind condition) e = omega (arith, e)
+judged_0 (Guilty kind) e = tt
+
+guilty_0 : (j : Judgement) → IsGuilty j → (judged j).status ≡ 0
+guilty_0 BadKey g = absurd g
+guilty_0 (Malformed at) g = absurd g
+guilty_0 (NotEvidence kind condition) g = absurd g
+guilty_0 (Guilty kind) g = refl
+
+judged_1 : (j : Judgement) → (judged j).status ≡ 1 → IsGuilty j → ⊥
+judged_1 j e g = omega (arith, e, guilty_0 j g)
+
+on_3 : (key : List ℕ) (r : Result Evidence ℕ) → (judged (judgement_on key r)).status ≡ 3 → ⊥
+on_3 key (Err at) e = omega (arith, e)
+on_3 key (Ok evidence) e = by_3 (tried key evidence) e
+  where
+    by_3 : (r : Result (Unit {0}) ℕ) → (judged (judgement_by (kind_of evidence) r)).status ≡ 3 → ⊥
+    by_3 (Ok x) e = omega (arith, e)
+    by_3 (Err n) e = omega (arith, e)
+
+bad_1 : (judged BadKey).status ≡ 1 → ⊥
+bad_1 e = omega (arith, e)
+
+key_read_1 : (key bytes : List ℕ) → (judged (judgement_of key bytes)).status ≡ 1 → IsTrue (key_reads key)
+key_read_1 key bytes = go (key_reads key) refl
+  where
+    go : (reads : Bool) → key_reads key ≡ reads → (judged (judgement_of key bytes)).status ≡ 1 → IsTrue (key_reads key)
+    go true e = λ one. e
+    go false e = rw e (λ one. absurd (bad_1 one))
+
+key_unread_3 : (key bytes : List ℕ) → (judged (judgement_of key bytes)).status ≡ 3 → key_reads key ≡ false
+key_unread_3 key bytes = go (key_reads key) refl
+  where
+    go : (reads : Bool) → key_reads key ≡ reads → (judged (judgement_of key bytes)).status ≡ 3 → key_reads key ≡ false
+    go true e = rw e (λ three. absurd (on_3 key (evidence_of bytes) three))
+    go false e = λ three. e
+
+-- what the status says of an ending that is the judgement's
+of_judged : (key bytes : List ℕ) (status : ℕ) → ((status ≡ 4) ⊎ (status ≡ 5)) ⊎ (status ≡ (judged (judgement_of key bytes)).status) → JudgeStatus key bytes status
+of_judged key bytes status (inl high) = record {
+  guilty = λ e. absurd (not_low status 0 high (omega arith) e);
+  convicts = λ c. inr high;
+  innocent = λ e. absurd (not_low status 1 high (omega arith) e);
+  refused = λ e. absurd (not_low status 3 high (omega arith) e);
+}
+of_judged key bytes status (inr same) =
+    let j = judgement_of key bytes in
+    record {
+      guilty = λ e. (guilty key bytes).0 (judged_0 j (sym same ∙ e));
+      convicts = λ c. inl (same ∙ guilty_0 j ((guilty key bytes).1 c));
+      innocent = λ e. (key_read_1 key bytes (sym same ∙ e), λ c. judged_1 j (sym same ∙ e) ((guilty key bytes).1 c));
+      refused = λ e. key_unread_3 key bytes (sym same ∙ e);
+    }
+
+judged_not5 : (j : Judgement) → (nat_eq (judged j).status 5) ≡ false
+judged_not5 BadKey = refl
+judged_not5 (Malformed at) = refl
+judged_not5 (NotEvidence kind condition) = refl
+judged_not5 (Guilty kind) = refl
+
+reported : (held now : Option (List ℕ)) (before after : ℕ) (ending : Outcome) (status : ℕ) → Reports held now before after ending status → ((status ≡ 4) ⊎ (status ≡ 5)) ⊎ (status ≡ ending.status)
+reported held now before after ending status (inl prints) = inr prints.answers
+reported held now before after ending status (inr fails) = inl (high (unprinted_high ending))
+  where
+    high : (unprinted_status ending ≡ 4) ⊎ (unprinted_status ending ≡ 5) → (status ≡ 4) ⊎ (status ≡ 5)
+    high (inl four) = inl (fails.answers ∙ four)
+    high (inr five) = inr (fails.answers ∙ five)
+
+stopped : (before now : ℕ) (ending : Outcome) (status : ℕ) → Stops before now ending → ((status ≡ 4) ⊎ (status ≡ 5)) ⊎ (status ≡ ending.status) → (status ≡ 4) ⊎ (status ≡ 5)
+stopped before now ending status stops (inl high) = high
+stopped before now ending status (inl fault) (inr same) = inl (same ∙ ap (λ o. o.status) fault.0)
+stopped before now ending status (inr memory) (inr same) = inr (same ∙ ap (λ o. o.status) memory)
+
+pub judge_status : (command : Option Command) (old new : Files) (ending : Outcome) (held now : Option (List ℕ)) (before after status : ℕ) → RunEnds command old new ending
+    → Reports held now before after ending status → (k e key bytes : List ℕ) → command ≡ Some (Judge k e) → IsTrue old.tells
+    → old.file k ≡ Some key → length key ≤ 56 → old.file e ≡ Some bytes → length bytes ≤ 536870912 → JudgeStatus key bytes status
+judge_status command old new ending held now before after status ends reports k e key bytes is told key_is key_fits bytes_is bytes_fit =
+    let judge : JudgeEnds k e old new ending = subst (λ c. RunEnds c old new ending) is ends in
+    let found_key : judge.key_file ≡ Some key = judge.key_is told ∙ key_is in
+    let found_bytes : judge.evidence_file ≡ Some bytes = judge.evidence_is told ∙ bytes_is in
+    let whole : judge_ending judge.key_file k judge.evidence_file e ≡ judged (judgement_of key bytes) =
+    rw (found_key, found_bytes, input_within key k 56 key_fits, input_within bytes e 536870912 bytes_fit) refl in
+    go judge.ends whole
+  where
+    go : {goal : Outcome} → (ending ≡ goal) ⊎ Stops old.faults new.faults ending → goal ≡ judged (judgement_of key bytes) → JudgeStatus key bytes status
+    go (inl same) whole = of_judged key bytes status (told_status (reported held now before after ending status reports) (ap (λ o. o.status) (same ∙ whole)))
+      where
+        told_status : ((status ≡ 4) ⊎ (status ≡ 5)) ⊎ (status ≡ ending.status) → ending.status ≡ (judged (judgement_of key bytes)).status
+            → ((status ≡ 4) ⊎ (status ≡ 5)) ⊎ (status ≡ (judged (judgement_of key bytes)).status)
+        told_status (inl high) same = inl high
+        told_status (inr answered) same = inr (answered ∙ same)
+    go (inr stops) whole = of_judged key bytes status (inl (stopped _ _ ending status stops (reported held now before after ending status reports)))
+
+pub ruleset statuses = (status_2, no_command_2, judge_status)

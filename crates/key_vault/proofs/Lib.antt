@@ -1,0 +1,4 @@
+pub mod Moments
+pub mod SlotLemmas
+pub mod RunLemmas
+pub mod CallLemmas

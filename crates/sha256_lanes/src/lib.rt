@@ -1,0 +1,14 @@
+//! SHA-256 (FIPS 180-4) of four messages of 55 bytes at a time, each in its lane of std's vectors.
+//! A step of a one-time chain (RFC 8554) hashes such a message, and one of 55 bytes is the longest
+//! that is padded to a single block.
+#![tactic(auto)]
+
+mod blocks;
+mod constants;
+mod functions;
+mod rounds;
+#[cfg(test)]
+mod tests;
+mod words;
+
+pub use blocks::digests_of_55;
