@@ -6,11 +6,8 @@ use Rattle.std.proofs.lemmas.Bool.{cases_lt, ltb-false, le-ltb, le-leb, leb-true
 use Rattle.std.proofs.lemmas.Slice.Eq.{bytes_eq-Decides}
 use Rattle.std.proofs.lemmas.List.{append-nil, take_at, drop_at, take-append-drop, length-append, length-take, get_or-drop, get_or-take, get_or_past, nil_from_length}
 use Rattle.std.proofs.lemmas.Nat.{be_bytes_4, be_bytes_8, from_be_bytes-to_be_bytes_4, from_be_bytes-to_be_bytes_8}
-use Rattle.cp_bytes.specs.Fields.{Field, ValueOf, size_of, FieldFits, spell_field, parse_field, Values, Fit, spell, ◌>>=◌, or_left, field_at, fields_at, ended, at_offset, read_fields}
+use Rattle.cp_bytes.specs.Fields.{IsBytes, Field, ValueOf, size_of, FieldFits, spell_field, parse_field, Values, Fit, spell, ◌>>=◌, or_left, field_at, fields_at, ended, at_offset, read_fields}
 use Rattle.cp_bytes.specs.Fields.Field.{Tag, Byte, Kind, U32, U64, Epoch, Raw}
-
-abbrev pub IsBytes : List ℕ → Type 0
-IsBytes bytes = (i : ℕ) → get_or bytes i 0 < 256
 
 pub IsBytes-drop : (n : ℕ) (bytes : List ℕ) → IsBytes bytes → IsBytes (drop n bytes)
 IsBytes-drop n bytes h i = rw get_or-drop (h (n + i))

@@ -1,5 +1,5 @@
 -- Digests and the hash chain of a block (this project's own, over SHA-256 of FIPS 180-4).
-use Rattle.std.specs.Prelude.{ℕ, List, [], ◌∷◌, ◌++◌, codes, replicate}
+use Rattle.std.specs.Prelude.{ℕ, ◌≡◌, List, [], ◌∷◌, ◌++◌, codes, replicate}
 use Rattle.std.specs.Int.{w64, to_be_bytes}
 use Rattle.sha2.specs.Sha256.{sha256}
 
@@ -23,3 +23,12 @@ head prev entry = sha256 (chain_text prev entry)
 abbrev pub head_after : List ℕ → List (List ℕ) → List ℕ
 head_after prev [] = prev
 head_after prev (entry ∷ entries) = head_after (head prev entry) entries
+
+-- the texts that are hashed on that way
+abbrev pub chain_texts : List ℕ → List (List ℕ) → List (List ℕ)
+chain_texts prev [] = []
+chain_texts prev (entry ∷ entries) = chain_text prev entry ∷ chain_texts (head prev entry) entries
+
+-- no two different texts with P have one digest
+abbrev pub CollisionFree : (List ℕ → Type 0) → Type 0
+CollisionFree P = (a b : List ℕ) → P a → P b → sha256 a ≡ sha256 b → a ≡ b

@@ -1,9 +1,9 @@
 -- The laws of an entry's text and of an envelope's.
 use Rattle.std.proofs.Common.{◌≡◌, ℕ, ◌^◌, ◌<◌, ◌≤◌, Bool, true, false, cond, eqb, List, [], ◌∷◌, ◌++◌, length, Ok, refl, sym, ap, subst, ◌∙◌, append_assoc, arith}
 use Rattle.std.proofs.lemmas.Bool.{eqb-true, eqb-false}
-use Rattle.cp_bytes.specs.Fields.{◌>>=◌, fields_at, part, part_at}
+use Rattle.cp_bytes.specs.Fields.{IsBytes, ◌>>=◌, fields_at, part, part_at}
 use Rattle.cp_bytes.specs.Fields.Field.{Tag}
-use Rattle.cp_bytes.proofs.FieldLemmas.{IsBytes, bind_ok, ok_is, Takes, Takes-then, fields_take, fields_again}
+use Rattle.cp_bytes.proofs.FieldLemmas.{bind_ok, ok_is, Takes, Takes-then, fields_take, fields_again}
 use Rattle.cp_statements.specs.Tagged.{tagged_text}
 use Rattle.cp_statements.specs.Entry.{Entry, EntryFits, entry_tag, entry_fields, entry_values, entry_from, signature_text, signature_at, entry_text, entry_at, entry_of}
 use Rattle.cp_statements.specs.Envelope.{Envelope, EnvelopeFits, envelope_text, envelope_at, envelope_of}

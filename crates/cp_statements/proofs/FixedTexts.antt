@@ -1,6 +1,6 @@
 -- The laws of the texts of a fixed length: what was spelled is read, and what is read was spelled so.
 use Rattle.std.proofs.Common.{◌≡◌, ℕ, List, Ok, subst}
-use Rattle.cp_bytes.proofs.FieldLemmas.{IsBytes}
+use Rattle.cp_bytes.specs.Fields.{IsBytes}
 use Rattle.cp_statements.specs.PutRequest.{PutRequest, PutRequestFits, put_request_tag, put_request_fields, put_request_values, put_request_from, put_request_text, put_request_of}
 use Rattle.cp_statements.specs.GetRequest.{GetRequest, GetRequestFits, get_request_tag, get_request_fields, get_request_values, get_request_from, get_request_text, get_request_of}
 use Rattle.cp_statements.specs.CloseOrder.{CloseOrder, CloseOrderFits, close_order_tag, close_order_fields, close_order_values, close_order_from, close_order_text, close_order_of}

@@ -2,9 +2,9 @@
 use Rattle.std.proofs.Common.{◌≡◌, ℕ, ◌^◌, ◌<◌, List, [], ◌++◌, length, Result, Ok, refl, sym, ap, subst, ◌∙◌, append_assoc}
 use Rattle.std.specs.Int.{w32, to_be_bytes}
 use Rattle.std.proofs.lemmas.List.{append-nil}
-use Rattle.cp_bytes.specs.Fields.{◌>>=◌, field_at, part, part_at, ended, at_offset}
+use Rattle.cp_bytes.specs.Fields.{IsBytes, ◌>>=◌, field_at, part, part_at, ended, at_offset}
 use Rattle.cp_bytes.specs.Fields.Field.{U32, Raw}
-use Rattle.cp_bytes.proofs.FieldLemmas.{IsBytes, bind_ok, ended_ok, at_offset_ok, Takes, Takes-then, field_takes, field_again}
+use Rattle.cp_bytes.proofs.FieldLemmas.{bind_ok, ended_ok, at_offset_ok, Takes, Takes-then, field_takes, field_again}
 
 pub part_takes : (bytes : List ℕ) (x : List ℕ × List ℕ) → IsBytes bytes → part_at bytes ≡ Ok x → Takes bytes (part x.0) x.1 × (length x.0 < 2 ^ 32)
 unfolding part_at

@@ -2,9 +2,9 @@
 use Rattle.std.proofs.Common.{◌≡◌, ℕ, ◌+◌, List, [], ◌∷◌, length, take, drop, ltb, Result, Ok, refl, ap, arith, length-append}
 use Rattle.std.specs.Prelude.{bytes_eq}
 use Rattle.std.proofs.lemmas.Slice.Eq.{bytes_eq-Decides}
-use Rattle.cp_bytes.specs.Fields.{Field, Values, Fit, size_of, spell, spell_field, ◌>>=◌, or_left, parse_field, field_at, fields_at, read_fields, ended}
+use Rattle.cp_bytes.specs.Fields.{IsBytes, Field, Values, Fit, size_of, spell, spell_field, ◌>>=◌, or_left, parse_field, field_at, fields_at, read_fields, ended}
 use Rattle.cp_bytes.specs.Fields.Field.{Tag}
-use Rattle.cp_bytes.proofs.FieldLemmas.{IsBytes, bind_ok, guard_ok, ok_is, or_left_ok, some_given, at_offset_ok, field_length, read_again, read_takes}
+use Rattle.cp_bytes.proofs.FieldLemmas.{bind_ok, guard_ok, ok_is, or_left_ok, some_given, at_offset_ok, field_length, read_again, read_takes}
 use Rattle.cp_statements.specs.Tagged.{tagged_text, tagged_of}
 
 pub tagged_again : {A : Type 0} (tag : List ℕ) (fs : List Field) (from : Values fs → A) (vs : Values fs) → Fit fs vs → tagged_of tag fs from (tagged_text tag fs vs) ≡ Ok (from vs)

@@ -1,15 +1,12 @@
 -- The statements of the laws on texts.
-use Rattle.std.specs.Prelude.{ℕ, ◌+◌, ◌<◌, ◌≡◌, List, length, Result, Ok, IsOk, slice_index}
+use Rattle.std.specs.Prelude.{ℕ, ◌+◌, ◌<◌, ◌≡◌, List, length, Result, Ok, IsOk}
+use Rattle.cp_bytes.specs.Fields.{IsBytes}
 use Rattle.cp_statements.specs.PutRequest as put_request
 use Rattle.cp_statements.specs.GetRequest as get_request
 use Rattle.cp_statements.specs.CloseOrder as close_order
 use Rattle.cp_statements.specs.Attestation as attestation
 use Rattle.cp_statements.specs.Closing as closing
 use Rattle.cp_statements.specs.Entry as entry
-
--- the numbers are bytes
-abbrev pub IsBytes : List ℕ → Type 0
-IsBytes bytes = (i : ℕ) → slice_index bytes i < 256
 
 -- A form's reading and its text are one relation between bytes and the values that fit.
 pub record IsExact {A : Type 0} (read : List ℕ → Result A ℕ) (text : A → List ℕ) (Fits : A → Type 0) : Type 0 where

@@ -1,5 +1,6 @@
 use Rattle.std.proofs.Common.{◌≡◌, ℕ, List, Result, Ok, sym, ◌∙◌}
-use Rattle.cp_statements.specs.Laws.{IsBytes, IsExact}
+use Rattle.cp_bytes.specs.Fields.{IsBytes}
+use Rattle.cp_statements.specs.Laws.{IsExact}
 use Rattle.cp_statements.proofs.FixedTexts.{put_request_again, put_request_takes, get_request_again, get_request_takes, close_order_again, close_order_takes, attestation_again, attestation_takes, closing_again, closing_takes}
 use Rattle.cp_statements.proofs.Entries.{entry_again, entry_takes, envelope_again, envelope_takes}
 use Rattle.cp_statements.proofs.laws.texts_are_exact.Goals as goal
