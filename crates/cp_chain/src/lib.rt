@@ -1,0 +1,2 @@
+//! cp_chain
+#![tactic(auto)]

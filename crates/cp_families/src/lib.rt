@@ -1,0 +1,2 @@
+//! cp_families
+#![tactic(auto)]

@@ -1,0 +1,2 @@
+//! cp_tips
+#![tactic(auto)]
