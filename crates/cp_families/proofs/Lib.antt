@@ -1,0 +1,4 @@
+pub mod RowLemmas
+pub mod Chunks
+pub mod Searching
+pub mod Exact

@@ -1,2 +1,6 @@
 pub mod Tip
 pub mod Table
+pub mod View
+pub mod Rows
+pub mod Tips
+pub mod Laws

@@ -1,6 +1,6 @@
 -- Tables of tips: what a closing signs the digest of (this project's own). A table is the tag "CPt1"
 -- and rows of 88 bytes to the end.
-use Rattle.std.specs.Prelude.{ℕ, zero, suc, ◌≡◌, ◌<◌, ◌≤◌, Bool, true, false, not, ◌&&◌, ◌||◌, List, [], ◌∷◌, ◌++◌, length, Option, Some, None, Result, Ok, Err, nat_lt, nat_le, ◌==◌, if◌then◌else◌, codes, sum_by, flat_map, map}
+use Rattle.std.specs.Prelude.{ℕ, zero, suc, ◌≡◌, ◌<◌, Bool, true, false, not, ◌&&◌, ◌||◌, List, [], ◌∷◌, ◌++◌, length, Option, Some, None, Result, Ok, Err, nat_lt, nat_le, ◌==◌, if◌then◌else◌, codes, sum_by, flat_map}
 use Rattle.std.specs.List.{list_all, AllByRecursion}
 use Rattle.cp_bytes.specs.Fields.{Field, Values, Fit, spell, ◌>>=◌, field_at, fields_at, at_offset}
 use Rattle.cp_bytes.specs.Fields.Field.{Tag, U64, Raw}
