@@ -16,7 +16,7 @@ mod tests;
 pub use allows::Allow;
 pub use head_reads::HeadRead;
 pub use heads::Head;
-pub use reading::{head_end, parse_head, read_head};
+pub use reading::{HEAD_LIMIT, head_end, parse_head, read_head};
 pub use responses::{response, response_head};
 pub use short_texts::ShortText;
 

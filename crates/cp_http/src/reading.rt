@@ -8,7 +8,8 @@ use crate::head_reads::HeadRead;
 use crate::heads::Head;
 use httparse::{EMPTY_HEADER, Header, Request, Status};
 
-const HEAD_LIMIT: usize = 16384;
+/// The most bytes of a head, with the `\r\n\r\n` that ends it (this project's own).
+pub const HEAD_LIMIT: usize = 16_384;
 
 // The bytes in which a head must end.
 #[tactic(auto, using(crate::proofs::HeadLemmas::windows))]

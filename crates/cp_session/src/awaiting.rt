@@ -11,10 +11,8 @@ use crate::inboxes::Inbox;
 use crate::judging::request_of;
 use crate::rejections::Rejection;
 use crate::requests::Request;
-use cp_http::head_end;
+use cp_http::{HEAD_LIMIT, head_end};
 use cp_outside::{Failed, Source};
-
-const HEAD_LIMIT: usize = 16_384;
 
 /// What waiting for a head came to.
 #[derive(Clone, Copy, Debug)]

@@ -1,13 +1,11 @@
 -- How a command ends, from what reading its input files gave.
-use Rattle.std.proofs.Common.{◌≡◌, ◌⊎◌, inl, inr, ℕ, ◌≤◌, Bool, true, false, List, Option, Some, None, Result, Ok, Err, refl, sym, ap, ◌∙◌, subst, arith}
-use Rattle.std.specs.Prelude.{IsTrue}
+use Rattle.std.proofs.Common.{◌≡◌, ◌⊎◌, inl, inr, ℕ, ◌≤◌, List, Option, Result, Ok, Err, refl, ap, ◌∙◌, arith}
 use Rattle.std.specs.Global.{Vec}
-use Rattle.cp_bytes.specs.Fields.{◌>>=◌}
 use Rattle.cp_outside.specs.Causes.{Rose}
 use Rattle.cp_judge.specs.Judging.{judgement_of}
 use Rattle.cp_judge.specs.declared.judgement.Judgement.{Judgement}
 use Rattle.cp_tool.specs.Endings.{Outcome, judged}
-use Rattle.cp_tool.specs.Runs.{Files, input_of, ending_of, Stops, KeepsAll, JudgeEnds, VerifyEnds, judge_ending, verify_ending, verified}
+use Rattle.cp_tool.specs.Runs.{Files, input_of, Stops, KeepsAll, JudgeEnds, VerifyEnds, judge_ending, verify_ending, verified}
 use Rattle.cp_tool.specs.Inputs.{ReadsInput, GivesInput}
 use Rattle.cp_tool.specs.View.{ending_view}
 use Rattle.cp_tool.specs.declared.ending.Ending.{Ending}

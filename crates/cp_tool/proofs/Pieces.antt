@@ -1,11 +1,10 @@
 -- Pieces that are written one after another.
-use Rattle.std.proofs.Common.{◌≡◌, ℕ, ◌+◌, ◌≤◌, List, ◌++◌, length, take, Option, Result, Ok, Err, sym, subst, arith}
-use Rattle.std.specs.Prelude.{MatchResult}
+use Rattle.std.proofs.Common.{ℕ, ◌+◌, List, ◌++◌, length, take, Option, Result, Ok, Err, sym, subst, arith}
 use Rattle.std.specs.Io.KnownBytes.{Appends}
 use Rattle.std.proofs.KnownBytes.{Appends-trans}
 use Rattle.std.proofs.Math.Seq.{take-append-add}
 use Rattle.std.proofs.lemmas.List.{take-append-le, length-append}
-use Rattle.cp_outside.specs.Causes.{AppendsPrefix, HasCause}
+use Rattle.cp_outside.specs.Causes.{AppendsPrefix}
 use Rattle.cp_outside.specs.declared.failures.Failed.{Failed}
 use Rattle.cp_tool.specs.Reports.{Puts}
 

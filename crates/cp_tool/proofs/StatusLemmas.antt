@@ -10,7 +10,7 @@ use Rattle.lms_tree.specs.PublicKey.{key_reads}
 use Rattle.lms_tree.specs.Verifying.{verifies}
 use Rattle.lms_tree.specs.Secret.{public_of}
 use Rattle.cp_evidence.specs.Evidence.{Evidence, evidence_of, kind_of}
-use Rattle.cp_evidence.specs.Conditions.{Convicts, tried}
+use Rattle.cp_evidence.specs.Conditions.{tried}
 use Rattle.cp_judge.specs.Judging.{judgement_of, judgement_on, judgement_by, IsGuilty}
 use Rattle.cp_judge.specs.declared.judgement.Judgement.{Judgement}
 use Rattle.cp_judge.specs.declared.judgement.Judgement.TheVariants.{BadKey, Malformed, NotEvidence, Guilty}
@@ -19,7 +19,7 @@ use Rattle.cp_tool.specs.Commands.{Command}
 use Rattle.cp_tool.specs.Commands.Command.{Judge, Verify, Keygen}
 use Rattle.cp_tool.specs.Endings.{Outcome, judged, usage, short_seed, unprinted_status}
 use Rattle.cp_tool.specs.Reports.{Reports}
-use Rattle.cp_tool.specs.Runs.{Files, RunEnds, JudgeEnds, VerifyEnds, KeygenEnds, KeyEnds, JudgeStatus, Stops, input_of, ending_of, judge_ending, verify_ending, verified, key_made, secret_in}
+use Rattle.cp_tool.specs.Runs.{Files, RunEnds, JudgeEnds, KeyEnds, JudgeStatus, Stops, KeepsAll, input_of, ending_of, judge_ending, verify_ending, verified, key_made, secret_in}
 
 -- ---- no ending of a command but `usage` has the status 2
 
@@ -76,7 +76,8 @@ same_not2 : (a b : Outcome) → a ≡ b → Not2 b → Not2 a
 same_not2 a b same not e = not (sym (ap (λ o. o.status) same) ∙ e)
 
 key_not2 : (made : Result (List ℕ) Outcome) (out : List ℕ) (old new : Files) (ending : Outcome) → Refuses3 made → KeyEnds made out old new ending → Not2 ending
-key_not2 (Ok key) out old new ending three ends = same_not2 _ _ ends.0 (λ e. omega (arith, e))
+key_not2 (Ok key) out old new ending three (inl written) = same_not2 _ _ written.0 (λ e. omega (arith, e))
+key_not2 (Ok key) out old new ending three (inr unwritten) = stops_not2 _ _ ending (inl unwritten)
 key_not2 (Err refusal) out old new ending three ends = same_not2 _ _ ends.0 (λ e. omega (arith, e, three))
 
 made_refuses_3 : (sf : Option (List ℕ)) (s : List ℕ) (height : Height) (ots : OtsType) → Refuses3 (key_made sf s height ots)
@@ -105,9 +106,9 @@ run_2 (Some (Verify k t s)) old new ending ends e = absurd (verify_case ends.end
     verify_case (inr stops) = stops_not2 _ _ ending stops
 run_2 (Some (Keygen s height ots out)) old new ending ends e = absurd (keygen_case ends.ends e)
   where
-    keygen_case : KeyEnds (key_made ends.seed_file s height ots) out old new ending ⊎ Stops old.faults new.faults ending → Not2 ending
+    keygen_case : KeyEnds (key_made ends.seed_file s height ots) out old new ending ⊎ (Stops old.faults new.faults ending × KeepsAll old new) → Not2 ending
     keygen_case (inl made) = key_not2 (key_made ends.seed_file s height ots) out old new ending (made_refuses_3 ends.seed_file s height ots) made
-    keygen_case (inr stops) = stops_not2 _ _ ending stops
+    keygen_case (inr stops) = stops_not2 _ _ ending stops.0
 
 -- ---- the answered status
 

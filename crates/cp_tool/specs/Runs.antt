@@ -100,15 +100,17 @@ key_made seed_file seed height ots = do
   bytes ← input_of seed_file seed 48
   if nat_lt (length bytes) 48 then Err short_seed else Ok (public_of (secret_in height ots bytes))
 
--- the key was written and is printed, or an input was refused and nothing was written
+-- The key was written and is printed; or its write failed, after which the file of its name may hold
+-- anything; or an input was refused and nothing was written.
 abbrev pub KeyEnds : Result (List ℕ) Outcome → List ℕ → Files → Files → Outcome → Type 0
-KeyEnds (Ok key) out old new ending = (ending ≡ made key) × (IsTrue old.tells → new.file out ≡ Some key)
+KeyEnds (Ok key) out old new ending = ((ending ≡ made key) × (IsTrue old.tells → new.file out ≡ Some key)) ⊎ ((ending ≡ fault) × Rose old.faults new.faults)
 KeyEnds (Err refusal) out old new ending = (ending ≡ refusal) × KeepsAll old new
 
+-- Where the command stops before its write, for want of memory or at a fault of a read, all files stay.
 pub record KeygenEnds (seed : List ℕ) (height : Height) (ots : OtsType) (out : List ℕ) (old new : Files) (ending : Outcome) : Type 0 where
   pub seed_file : Option (List ℕ)
   pub seed_is : IsFile old seed seed_file
-  pub ends : KeyEnds (key_made seed_file seed height ots) out old new ending ⊎ Stops old.faults new.faults ending
+  pub ends : KeyEnds (key_made seed_file seed height ots) out old new ending ⊎ (Stops old.faults new.faults ending × KeepsAll old new)
   pub others : KeepsOthers out old new
 
 -- ---- all commands
