@@ -1,0 +1,13 @@
+pub mod Each
+pub mod Chain
+pub mod Unbroken
+pub mod Found
+pub mod Firsts
+pub mod Readings
+pub mod Parts
+pub mod Cursors
+pub mod Calls
+pub mod Places
+pub mod Passes
+pub mod Nonces
+pub mod LogReadings

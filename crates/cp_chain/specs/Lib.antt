@@ -5,3 +5,6 @@ pub mod Frame
 pub mod Legal
 pub mod Rules
 pub mod Standing
+pub mod Laws
+pub mod Pass
+pub mod View

@@ -5,7 +5,7 @@ use Rattle.std.specs.Int.{w32, w64, to_be_bytes}
 use Rattle.std.specs.List.{AllByRecursion}
 use Rattle.cp_bytes.specs.Fields.{◌>>=◌, field_at, ended, at_offset}
 use Rattle.cp_bytes.specs.Fields.Field.{Tag, U32, U64, Epoch}
-use Rattle.cp_chain.specs.Segment.{SegmentFits, segment_text, segment_at}
+use Rattle.cp_chain.specs.Segment.{SegmentFits, segment_text, segment_at, first_or_none}
 
 -- a block and its segment
 pub record LogPart : Type 0 where
@@ -39,15 +39,25 @@ LogPartFits p = (p.block < 2 ^ 64) × SegmentFits p.texts
 abbrev pub LogFits : Log → Type 0
 LogFits l = ((1 ≤ l.epoch) × (l.epoch < 2 ^ 64)) × (length l.parts < 2 ^ 32) × (parts_ascend None l.parts ≡ true) × AllByRecursion LogPartFits l.parts
 
--- so many parts, in strictly ascending order of their blocks; one that breaks it is refused at its
--- first byte
+-- A block and its segment at the front, behind the block before. The order is judged as soon as the
+-- block is there, and a block that breaks it is refused at its first byte.
+unfoldable pub log_part_at : Option ℕ → List ℕ → Result (LogPart × List ℕ) ℕ
+log_part_at before bytes = do
+  block ← field_at U64 bytes
+  texts ← (if comes_behind before block.0 then segment_at block.1 else Err (length bytes))
+  Ok (record { block = block.0; texts = texts.0 }, texts.1)
+
+-- so many of them
 unfoldable pub log_parts_at : ℕ → Option ℕ → List ℕ → Result (List LogPart × List ℕ) ℕ
 log_parts_at zero before bytes = Ok ([], bytes)
 log_parts_at (suc n) before bytes = do
-  block ← field_at U64 bytes
-  texts ← (if comes_behind before block.0 then segment_at block.1 else Err (length bytes))
-  others ← log_parts_at n (Some block.0) texts.1
-  Ok (record { block = block.0; texts = texts.0 } ∷ others.0, others.1)
+  first ← log_part_at before bytes
+  others ← log_parts_at n (Some first.0.block) first.1
+  Ok (first.0 ∷ others.0, others.1)
+
+-- those at the front; none where the bytes do not spell them
+unfoldable pub log_parts_in : ℕ → Option ℕ → List ℕ → List LogPart
+log_parts_in n before bytes = first_or_none (log_parts_at n before bytes)
 
 -- what all of the bytes spell, or the offset of the first byte that does not fit
 unfoldable pub log_of : List ℕ → Result Log ℕ

@@ -1,8 +1,8 @@
 -- The rules of a segment, and where one is broken (this project's own).
-use Rattle.std.specs.Prelude.{ℕ, zero, suc, ◌+◌, ◌<◌, ◌≤◌, ◌≡◌, ◌⊎◌, Bool, true, false, not, ◌&&◌, List, [], ◌∷◌, length, map, take, get_or, Option, Some, None, nat_lt, ◌==◌, if◌then◌else◌}
+use Rattle.std.specs.Prelude.{ℕ, zero, suc, ◌+◌, ◌<◌, ◌≤◌, ◌≡◌, ◌⊎◌, Bool, true, not, ◌&&◌, List, [], ◌∷◌, length, map, take, get_or, Option, Some, None, nat_lt, ◌==◌, if◌then◌else◌}
 use Rattle.cp_statements.specs.Entry.{Entry, entry_of}
 use Rattle.cp_families.specs.Writers.{writer}
-use Rattle.cp_chain.specs.Frame.{Side, Frame}
+use Rattle.cp_chain.specs.Frame.{Frame}
 use Rattle.cp_chain.specs.Legal.{ok_and, same_put, put_at, put_by, latest, is_call}
 
 pub data Rule : Type 0 where

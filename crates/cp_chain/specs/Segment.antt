@@ -1,6 +1,6 @@
 -- Segments: the texts that a block's chain gained in an epoch (this project's own). A segment is a
 -- number of four bytes and so many parts.
-use Rattle.std.specs.Prelude.{ℕ, zero, suc, ◌<◌, ◌^◌, List, [], ◌∷◌, ◌++◌, length, Result, Ok, flat_map}
+use Rattle.std.specs.Prelude.{ℕ, zero, suc, ◌<◌, ◌^◌, List, [], ◌∷◌, ◌++◌, length, Result, Ok, Err, flat_map}
 use Rattle.std.specs.Int.{w32, to_be_bytes}
 use Rattle.std.specs.List.{AllByRecursion}
 use Rattle.cp_bytes.specs.Fields.{◌>>=◌, field_at, part, part_at, ended, at_offset}
@@ -34,3 +34,11 @@ segment_at bytes = do
 -- what all of the bytes spell, or the offset of the first byte that does not fit
 unfoldable pub segment_of : List ℕ → Result (List (List ℕ)) ℕ
 segment_of bytes = at_offset bytes (segment_at bytes >>= ended)
+
+abbrev pub first_or_none : {A B E : Type 0} → Result (List A × B) E → List A
+first_or_none (Ok x) = x.0
+first_or_none (Err e) = []
+
+-- so many parts at the front; none where the bytes do not spell them
+unfoldable pub parts_in : ℕ → List ℕ → List (List ℕ)
+parts_in n bytes = first_or_none (parts_at n bytes)

@@ -1,4 +1,11 @@
 pub mod Evidence
 pub mod Conditions
+pub mod Presented
 pub mod View
-pub mod Laws
+pub mod Written
+pub mod HandIns
+pub mod Material
+pub mod Sound
+pub mod Verdict
+pub mod Audited
+pub mod AuditLaws

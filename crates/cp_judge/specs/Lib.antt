@@ -1,1 +1,4 @@
 pub mod Judging
+pub mod View
+pub mod Rows
+pub mod FrameView

@@ -1,8 +1,16 @@
 //! The judge: evidence is decided from its bytes and the store's key alone.
 #![tactic(auto)]
 
-mod conditions;
+mod closings;
+mod envelopes;
+mod framed;
 mod judgement;
+mod judging;
+mod store;
+mod tables;
 
-pub use conditions::judge;
 pub use judgement::Judgement;
+pub use judging::judge;
+
+#[cfg(test)]
+mod tests;

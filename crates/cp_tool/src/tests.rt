@@ -175,7 +175,7 @@ fn refuses_what_is_no_evidence(rt: HostRuntime) -> Result<(), Fail> {
     );
     let cases = [
         ("judge --key key --evidence zeros", 1, "not evidence K2 1\n"),
-        ("judge --key key --evidence ten", 1, "not evidence K10 0\n"),
+        ("judge --key key --evidence ten", 1, "malformed 9\n"),
         ("judge --key key --evidence five", 1, "malformed 5\n"),
         ("judge --key key --evidence eleven", 1, "malformed 4\n"),
         ("judge --key short-key --evidence five", 3, "bad key\n"),
