@@ -11,3 +11,4 @@ pub mod Places
 pub mod Passes
 pub mod Nonces
 pub mod LogReadings
+pub mod LogOrder

@@ -266,8 +266,18 @@ fn cost(rt: HostRuntime) -> Result<(), Fail> {
         families: Families::read(list).map_err(|_| "refused")?,
         epoch: 2,
         block: 5,
-        before: Tip { count: 3, version: 2, content: CONTENT, head: [9; 32] },
-        after: Tip { count: 3 + u64::from(n), version: 2, content: CONTENT, head: [9; 32] },
+        before: Tip {
+            count: 3,
+            version: 2,
+            content: CONTENT,
+            head: [9; 32],
+        },
+        after: Tip {
+            count: 3 + u64::from(n),
+            version: 2,
+            content: CONTENT,
+            head: [9; 32],
+        },
     };
     assert_eq!(rt; first_fault(&frame, &segment), None);
     Ok(())

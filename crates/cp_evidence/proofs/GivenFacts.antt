@@ -16,7 +16,7 @@ use Rattle.cp_families.specs.Families.{families_of}
 use Rattle.cp_chain.specs.Frame.{Frame}
 use Rattle.cp_chain.specs.Log.{LogPart, Log, log_of, comes_behind, parts_ascend}
 use Rattle.cp_chain.proofs.Found.{some_is}
-use Rattle.cp_chain.proofs.Readings.{log_ascends}
+use Rattle.cp_chain.proofs.LogOrder.{log_ascends}
 use Rattle.cp_evidence.specs.Conditions.{signed_by, closing_by, where_holds, Before, before_of, is_table_before, rows_for, rows_before}
 use Rattle.cp_evidence.specs.Material.{Material, What, needs, SignedClosing, signed_closing, closing_in, closing_before_in, before_in, envelope_before, is_formed, is_formed_before, rows_in_table, least_of, blocks_in, least_regressed, rose, part_of, frame_between, part_reaches, log_fault, whole_log, log_given, GivenEpoch, log_is_read, given_of, old_rows, new_rows, parts_or_none, segment_for, frame_for}
 use Rattle.cp_evidence.specs.Material.What.{FamiliesList, ClosingBefore, ClosingItself, TableBefore, TableItself, LogText}

@@ -72,7 +72,12 @@ fn a_text_that_is_no_statement_convicts(rt: HostRuntime) -> Result<(), Fail> {
     let mut evidence = Vec::new(rt.alloc());
     write_k10(&x, &mut evidence)?;
     assert_eq!(rt; evidence.len(), 1309);
-    is_judged(&rt, &key, evidence.as_slice(), Judgement::Guilty { kind: 10 });
+    is_judged(
+        &rt,
+        &key,
+        evidence.as_slice(),
+        Judgement::Guilty { kind: 10 },
+    );
     let other = Judgement::NotEvidence {
         kind: 10,
         condition: 1,
@@ -129,7 +134,12 @@ fn the_first_closing_is_judged(rt: HostRuntime) -> Result<(), Fail> {
     is_judged(&rt, &key, evidence.as_slice(), answer);
     evidence.clear();
     write_k4(&x, b"no table", &mut evidence)?;
-    is_judged(&rt, &key, evidence.as_slice(), Judgement::Guilty { kind: 4 });
+    is_judged(
+        &rt,
+        &key,
+        evidence.as_slice(),
+        Judgement::Guilty { kind: 4 },
+    );
     Ok(())
 }
 
@@ -160,11 +170,21 @@ fn a_get_with_a_wrong_head_convicts(rt: HostRuntime) -> Result<(), Fail> {
         kind: 9,
         condition: 3,
     };
-    is_judged(&rt, &key, get_evidence(rt.alloc(), &key, &get)?.as_slice(), right);
+    is_judged(
+        &rt,
+        &key,
+        get_evidence(rt.alloc(), &key, &get)?.as_slice(),
+        right,
+    );
     get.head[31] ^= 1;
     let evidence = get_evidence(rt.alloc(), &key, &get)?;
     assert_eq!(rt; evidence.len(), 1482);
-    is_judged(&rt, &key, evidence.as_slice(), Judgement::Guilty { kind: 9 });
+    is_judged(
+        &rt,
+        &key,
+        evidence.as_slice(),
+        Judgement::Guilty { kind: 9 },
+    );
     Ok(())
 }
 
