@@ -27,7 +27,9 @@ const RULES_OF_ONE: [Rule; 6] = [
 ///
 /// It takes no memory, so a repeated call is looked for among the texts before each entry, but for an
 /// entry whose nonce is above all before it. A look tells nearly every text apart by twelve bytes. A
-/// segment of n texts costs at most n signatures and n^2/2 looks, and n looks where nonces rise.
+/// segment of n texts costs at most n signatures and n^2/2 looks, and none where nonces rise. The
+/// longest segment of a store of height 15, 30,720 texts, costs 470 million looks, some two seconds;
+/// the longest that a log of 320 MiB holds, 3.9 million gets, costs some hours.
 pub fn first_fault(frame: &Frame, segment: &Segment) -> Option<Fault>
     ensures fault { option_map fault_view result ≡ first_fault (frame_view frame.now) segment.now }
     ensures none { IsNone result ↔ Legal (frame_view frame.now) segment.now }

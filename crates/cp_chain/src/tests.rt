@@ -248,37 +248,3 @@ fn a_segment_reaches_and_an_attestation_stands(rt: HostRuntime) -> Result<(), Fa
     assert!(rt; !stands(&frame, &segment, &other));
     Ok(())
 }
-
-#[test]
-fn cost(rt: HostRuntime) -> Result<(), Fail> {
-    let n = 30720u32;
-    let mut bytes = Vec::new(rt.alloc());
-    bytes.extend_from_slice(&n.to_be_bytes())?;
-    for i in 0..n {
-        let mut text = Vec::new(rt.alloc());
-        get_entry(3 + u64::from(i), 100000 - u64::from(i)).write_into(&mut text)?;
-        write_part(text.as_slice(), &mut bytes)?;
-    }
-    let segment = Segment::read(bytes.as_slice()).map_err(|_| "refused")?;
-    let list = b"CPf1\0\0\0\0";
-    let frame = Frame {
-        store: STORE,
-        families: Families::read(list).map_err(|_| "refused")?,
-        epoch: 2,
-        block: 5,
-        before: Tip {
-            count: 3,
-            version: 2,
-            content: CONTENT,
-            head: [9; 32],
-        },
-        after: Tip {
-            count: 3 + u64::from(n),
-            version: 2,
-            content: CONTENT,
-            head: [9; 32],
-        },
-    };
-    assert_eq!(rt; first_fault(&frame, &segment), None);
-    Ok(())
-}

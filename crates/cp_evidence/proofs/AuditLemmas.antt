@@ -1,6 +1,6 @@
 -- The laws on the audit.
 use Rattle.std.proofs.Common.{◌≡◌, ℕ, ◌+◌, ◌-◌, ◌<◌, ◌≤◌, Bool, true, false, cond, eqb, ltb, leb, List, [], ◌∷◌, ◌++◌, length, take, Option, Some, None, Result, Ok, ◌⊎◌, inl, inr, refl, sym, ap, subst, ◌∙◌, arith}
-use Rattle.std.specs.Prelude.{bytes_eq, filter, flat_map, ◌||◌, is_some, Contains, IsTrue, IsOkAnd}
+use Rattle.std.specs.Prelude.{bytes_eq, filter, flat_map, ◌||◌, is_some, Contains, IsOkAnd}
 use Rattle.std.specs.Result.{result_ok}
 use Rattle.std.specs.List.{AllByRecursion}
 use Rattle.std.proofs.lemmas.Bool.{and_parts, eqb-true, lt-ltb, ltb-true, leb-true, false≢true}
@@ -19,9 +19,9 @@ use Rattle.cp_chain.specs.Rules.{text_at}
 use Rattle.cp_chain.specs.Standing.{reaches, says_the_same, stands}
 use Rattle.cp_chain.proofs.Each.{each_at}
 use Rattle.cp_chain.proofs.Found.{some_is, ok_and_true}
-use Rattle.cp_evidence.specs.Evidence.{Evidence, evidence_of, evidence_text, EvidenceFits}
-use Rattle.cp_evidence.specs.Conditions.{signed_by, attestation_by, closing_by, is_statement, tried, Convicts}
-use Rattle.cp_evidence.specs.Material.{Material, GivenEpoch, given_of, no_envelope, store_id, old_rows, new_rows, rose, frame_for, segment_for, parts_or_none, closings, closing_envelopes, verified}
+use Rattle.cp_evidence.specs.Evidence.{Evidence}
+use Rattle.cp_evidence.specs.Conditions.{signed_by, attestation_by, closing_by, is_statement, tried}
+use Rattle.cp_evidence.specs.Material.{Material, GivenEpoch, given_of, no_envelope, store_id, old_rows, new_rows, rose, frame_for, parts_or_none, closings, closing_envelopes, verified}
 use Rattle.cp_evidence.specs.Sound.{StandsInLog, Clean}
 use Rattle.cp_evidence.specs.Verdict.{guilt}
 use Rattle.cp_evidence.specs.AuditLaws.{CleanExactly, GuiltConvicts, GuiltIsGiven, GuiltIsHashed, WrittenConvicts, GetsAreLatest, chain_of, get_chain, hashed_by}

@@ -1,8 +1,8 @@
 -- Clean exactly where no guilt is found.
-use Rattle.std.proofs.Common.{◌≡◌, ℕ, ◌<◌, ◌≤◌, Bool, true, false, not, ◌&&◌, eqb, ltb, leb, List, [], ◌∷◌, ◌++◌, map, Option, Some, None, refl, sym, ap, subst, ◌∙◌, arith}
-use Rattle.std.specs.Prelude.{bytes_eq, option_map}
-use Rattle.std.specs.List.{AllByRecursion, find}
-use Rattle.std.proofs.lemmas.Bool.{and_parts, eqb-true, eq-eqb, lt-ltb, ltb-true, leb-true, false≢true}
+use Rattle.std.proofs.Common.{◌≡◌, ℕ, Bool, true, false, not, ◌&&◌, eqb, List, [], ◌++◌, map, Option, Some, None, refl, sym, ap, subst, ◌∙◌}
+use Rattle.std.specs.Prelude.{bytes_eq}
+use Rattle.std.specs.List.{AllByRecursion}
+use Rattle.std.proofs.lemmas.Bool.{and_parts, eqb-true, eq-eqb, false≢true}
 use Rattle.std.proofs.lemmas.Slice.Eq.{bytes_eq-Decides}
 use Rattle.cp_statements.specs.Envelope.{Envelope}
 use Rattle.cp_statements.specs.Attestation.{Attestation}
@@ -14,12 +14,11 @@ use Rattle.cp_chain.specs.Standing.{reaches, stands}
 use Rattle.cp_chain.proofs.Each.{each_weaker, each_nil}
 use Rattle.cp_chain.proofs.Found.{some_is, else_none, none_else, first_none, none_first}
 use Rattle.cp_chain.proofs.Firsts.{no_fault_legal, legal_no_fault}
-use Rattle.cp_evidence.specs.Evidence.{Evidence}
 use Rattle.cp_evidence.specs.Evidence.Evidence.{K1, K2, K3, K6, K9, K10}
-use Rattle.cp_evidence.specs.Conditions.{attestation_by, closing_by, is_statement, head_fits, link_from}
-use Rattle.cp_evidence.specs.Material.{SignedClosing, before_in, is_formed, is_formed_before, least_regressed, rose, part_reaches, GivenEpoch, store_id, old_rows, new_rows, parts_or_none, segment_for, frame_for, closings, closing_envelopes, verified, envelope_before}
+use Rattle.cp_evidence.specs.Conditions.{attestation_by, closing_by, is_statement, head_fits}
+use Rattle.cp_evidence.specs.Material.{SignedClosing, before_in, is_formed, is_formed_before, least_regressed, rose, part_reaches, GivenEpoch, store_id, old_rows, new_rows, parts_or_none, segment_for, frame_for, closings, closing_envelopes, verified}
 use Rattle.cp_evidence.specs.Sound.{Sound, HeadFits, SameClosing, OneLeaf, OnePlace, EachTwo, StandsInLog, Clean}
-use Rattle.cp_evidence.specs.Verdict.{some_and, has_wrong_head, is_other_closing, is_lost, same_leaf, same_place, clash, framing, other_closing, link_is_wrong, fault_in, lost_evidence, guilt}
+use Rattle.cp_evidence.specs.Verdict.{has_wrong_head, is_other_closing, is_lost, same_leaf, same_place, clash, framing, other_closing, fault_in, lost_evidence, guilt}
 use Rattle.cp_evidence.proofs.Searches.{all_map, map_none, none_map, if_none, none_if, not_false, find_none, none_found, clash_none, none_clash, NoWrong, and_some_false, false_and_some}
 use Rattle.cp_evidence.proofs.GivenFacts.{none_regressed, regressed_none, part_found, LogGiven, Facts}
 use Rattle.cp_evidence.proofs.Guilts.{stands_there, broken_rule, reads_whole}

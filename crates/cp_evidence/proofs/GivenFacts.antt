@@ -4,7 +4,7 @@ use Rattle.std.specs.Prelude.{bytes_eq, filter, not, ◌&&◌, is_none, is_some,
 use Rattle.std.specs.Option.{ok_or}
 use Rattle.std.specs.Result.{result_ok, result_unwrap_or}
 use Rattle.std.specs.List.{AllByRecursion}
-use Rattle.std.proofs.lemmas.Bool.{and_parts, and_from, eqb-true, eqb-false, eq-eqb, ne_eqb, le-ltb, ltb-true, false≢true}
+use Rattle.std.proofs.lemmas.Bool.{and_parts, eqb-true, eqb-false, eq-eqb, ne_eqb, le-ltb, ltb-true, false≢true}
 use Rattle.std.proofs.lemmas.List.{nil_from_length}
 use Rattle.sha2.specs.Sha256.{sha256}
 use Rattle.cp_bytes.specs.Fields.{◌>>=◌, field_at}

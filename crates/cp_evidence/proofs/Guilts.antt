@@ -1,8 +1,8 @@
 -- What the audit finds, the judge accepts: each kind of guilt is evidence that convicts, its envelopes
 -- were given or handed in, and what it presents is hashed by the audit.
-use Rattle.std.proofs.Common.{◌≡◌, ℕ, ◌<◌, Bool, true, false, cond, not, ◌&&◌, ◌||◌, eqb, ltb, leb, List, [], ◌∷◌, ◌++◌, length, map, Option, Some, None, Result, Ok, Err, inl, inr, refl, sym, ap, subst, ◌∙◌, arith}
+use Rattle.std.proofs.Common.{◌≡◌, ℕ, ◌<◌, Bool, true, false, cond, not, ◌&&◌, ◌||◌, eqb, ltb, leb, List, [], ◌∷◌, ◌++◌, map, Option, Some, None, Result, Ok, inl, inr, refl, sym, ap, subst, ◌∙◌, arith}
 use Rattle.std.specs.Prelude.{bytes_eq, is_some, option_map}
-use Rattle.std.specs.Option.{ok_or, option_map_or}
+use Rattle.std.specs.Option.{option_map_or}
 use Rattle.std.specs.Result.{result_ok}
 use Rattle.std.specs.List.{AllByRecursion, find}
 use Rattle.std.proofs.lemmas.Bool.{and_parts, and_from, eqb-true, eq-eqb, lt-ltb, ltb-false, leb-false, false≢true}
@@ -18,14 +18,13 @@ use Rattle.cp_tips.specs.Table.{TableRow, row, regressed}
 use Rattle.cp_families.specs.Families.{FamilyRow, families_of}
 use Rattle.cp_chain.specs.Frame.{Frame}
 use Rattle.cp_chain.specs.Log.{LogPart}
-use Rattle.cp_chain.specs.Rules.{Rule, broken, Found, first_fault, first_of, or_else}
+use Rattle.cp_chain.specs.Rules.{broken, Found, first_fault, first_of, or_else}
 use Rattle.cp_chain.specs.Standing.{reaches, stands}
-use Rattle.cp_chain.specs.Laws.{FirstFaultIsLeast}
 use Rattle.cp_chain.proofs.Found.{else_some, first_found}
 use Rattle.cp_chain.proofs.Firsts.{first_fault_least}
-use Rattle.cp_evidence.specs.Evidence.{Two, Given, Evidence}
+use Rattle.cp_evidence.specs.Evidence.{Given, Evidence}
 use Rattle.cp_evidence.specs.Evidence.Evidence.{K1, K2, K3, K4, K5, K6, K7, K8, K9, K10}
-use Rattle.cp_evidence.specs.Conditions.{check, want, where_holds, signed_by, attestation_by, closing_by, is_statement, head_fits, Before, before_of, link_from, is_table_before, rows_for, rows_before, Framed, framed, frame_of, families_for, is_outside, k1_tried, k2_tried, k3_tried, k4_tried, k5_tried, k6_tried, k7_tried, k8_tried, k9_tried, k10_tried, tried}
+use Rattle.cp_evidence.specs.Conditions.{check, want, where_holds, signed_by, attestation_by, closing_by, is_statement, head_fits, Before, before_of, link_from, is_table_before, rows_for, rows_before, Framed, framed, frame_of, is_outside, k1_tried, k2_tried, k3_tried, k4_tried, k5_tried, k6_tried, k7_tried, k8_tried, k9_tried, k10_tried, tried}
 use Rattle.cp_evidence.specs.Presented.{envelopes, own_chain_text, presented, opening_head, block_in}
 use Rattle.cp_evidence.specs.Material.{SignedClosing, before_in, is_formed, is_formed_before, least_regressed, rose, frame_between, part_reaches, GivenEpoch, store_id, old_rows, new_rows, parts_or_none, segment_for, frame_for, list_of, closings, closing_envelopes, verified, no_envelope, envelope_before}
 use Rattle.cp_evidence.specs.Verdict.{some_and, has_wrong_head, is_other_closing, is_lost, same_leaf, same_place, clash, framing, evidence_if, other_closing, link_is_wrong, fault_in, segment_beside, lost_evidence, guilt}

@@ -6,7 +6,6 @@ use Rattle.std.proofs.lemmas.Bool.{false≢true}
 use Rattle.std.proofs.lemmas.List.{append-nil}
 use Rattle.cp_statements.specs.Envelope.{Envelope}
 use Rattle.cp_chain.specs.Each.{Each}
-use Rattle.cp_chain.specs.Rules.{or_else}
 use Rattle.cp_chain.proofs.Each.{each_push}
 use Rattle.cp_chain.proofs.Found.{some_is, else_some, else_none, none_else}
 use Rattle.cp_evidence.specs.Evidence.{Evidence}

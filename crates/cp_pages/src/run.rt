@@ -2,8 +2,9 @@ ghost use Rattle.std.specs.Prelude.{◌≡◌, ◌↔◌, IsTrue};
 
 use std::marker::Model;
 
-/// The pages that one content has in a pool. A run can be neither copied nor dropped: it ends only
+/// The pages that one content has in a pool. A run cannot be copied, and it ends only
 /// in the call that gives its pages back.
+#[derive(Drop)]
 pub struct Run {
     /// The page where the content begins, 0 where the content is empty.
     pub(crate) first: u32,

@@ -1,10 +1,10 @@
 //! Turns at a gate.
-ghost use Rattle.std.specs.Prelude.{◌≡◌, ◌<◌, ◌≤◌, All, None, length};
+ghost use Rattle.std.specs.Prelude.{◌≡◌, ◌<◌, ◌≤◌, All, None, IfOk, length};
 ghost use Rattle.cp_gate.specs.Models.{IsSeatOf, places};
 
 use crate::counter::Counter;
 use cp_gate::{Gate, Seat};
-use std::alloc::Global;
+use std::alloc::{AllocError, Global};
 use std::sync::Wait;
 use std::sync::atomic::{AtomicU64, Ordering};
 use std::thread;
@@ -24,7 +24,7 @@ fn take_turns<R: Wait>(
     requires place { place < places gate.now }
 {
     let mut last = 0;
-    for _turn in 0..turns {
+    'turns: for _ in 0..turns {
         let mut held = gate.enter(rt, seat, place);
         let value = held.value_mut();
         value.add();
@@ -58,6 +58,17 @@ fn side_by_side<R: Threads + Wait + Sync>(
     );
 }
 
+// So many counters.
+fn counters(alloc: Global, count: u32) -> Result<Vec<Counter>, AllocError>
+    ensures { IfOk result (λ all. length all.items ≡ count) }
+{
+    let mut all = Vec::with_capacity(alloc, count as usize)?;
+    for _ in 0..count {
+        all.push(Counter::new())?;
+    }
+    Ok(all)
+}
+
 /// How many turns the places of a gate have counted once each of so many threads, at least one and at
 /// most 16, has taken so many at a place of its own. Nothing where memory is wanted.
 pub fn turns_at_gate<R: Threads + Wait + Sync>(
@@ -67,10 +78,9 @@ pub fn turns_at_gate<R: Threads + Wait + Sync>(
     turns: u64,
 ) -> Option<u64> {
     let threads = threads.clamp(1, 16);
-    let mut counters = Vec::with_capacity(alloc, threads as usize).ok()?;
-    for _ in 0..threads {
-        counters.push(Counter::new()).ok()?;
-    }
+    let Ok(counters) = counters(alloc, threads) else {
+        return None;
+    };
     let (gate, mut seats) = Gate::new(alloc, (), counters, threads).ok()?;
     let counted = AtomicU64::new(0);
     side_by_side(rt, &gate, seats.as_mut_slice(), turns, &counted);

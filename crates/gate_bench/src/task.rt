@@ -1,6 +1,4 @@
 //! What the words ask for.
-ghost use Rattle.std.specs.Prelude.{◌<◌, ◌≤◌};
-
 /// What keeps the threads apart.
 #[derive(Clone, Copy)]
 pub enum Guard {
@@ -9,6 +7,7 @@ pub enum Guard {
 }
 
 /// So many turns for each of so many threads.
+#[derive(Clone, Copy)]
 pub struct Task {
     pub guard: Guard,
     pub threads: u32,

@@ -1,5 +1,5 @@
 //! Ranges of leaves that were reserved.
-ghost use Rattle.std.specs.Prelude.{◌≡◌, ◌+◌, ◌<◌, ◌≤◌, MatchOption};
+ghost use Rattle.std.specs.Prelude.{◌≡◌, ◌+◌, ◌<◌, ◌≤◌, ◌↔◌, IsTrue, MatchOption};
 
 use std::marker::Model;
 
@@ -28,6 +28,13 @@ impl LeafRange {
             next: from,
             end: to,
         }
+    }
+
+    /// Whether no leaf is left.
+    pub fn is_empty(&self) -> bool
+        ensures { IsTrue result ↔ (self.now.to ≤ self.now.from) }
+    {
+        self.next >= self.end
     }
 
     /// The least leaf that is left. `None` comes exactly where none is left.

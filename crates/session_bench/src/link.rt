@@ -15,9 +15,11 @@ pub struct Counting<'a> {
     pub read: u64,
     /// The bytes that were written.
     pub written: u64,
-    /// The bytes that stood in the room already when more were read, added up over all reads. A
-    /// session moves no more than these to the front of its room.
+    /// The bytes that the session moved to the front of its room: those that stood there at a read
+    /// before which requests were answered.
     pub moved: u64,
+    // How many bytes stand in the room if none was answered since the last read.
+    held: usize,
 }
 
 impl<'a> Counting<'a> {
@@ -28,6 +30,7 @@ impl<'a> Counting<'a> {
             read: 0,
             written: 0,
             moved: 0,
+            held: 0,
         }
     }
 }
@@ -48,9 +51,11 @@ impl Source for Counting<'_> {
         into[..n].copy_from_slice(&self.left[..n]);
         self.left = &self.left[n..];
         self.read = self.read.saturating_add(n as u64);
-        self.moved = self
-            .moved
-            .saturating_add(ROOM.saturating_sub(into.len()) as u64);
+        let standing = ROOM.saturating_sub(into.len());
+        if standing < self.held {
+            self.moved = self.moved.saturating_add(standing as u64);
+        }
+        self.held = standing.saturating_add(n);
         Ok(n)
     }
 }

@@ -9,7 +9,8 @@ use std::sync::Wait;
 pub const REQUESTS: u32 = 9_999;
 
 /// The request that a connection sends again and again: a head, as a client writes it.
-pub const REQUEST: &[u8; 110] = b"GET /v1/epoch/1/closing HTTP/1.1\r\nHost: store.example:8080\r\nUser-Agent: client/1.0\r\nAccept: */*\r\nX-N: 1234\r\n\r\n";
+pub const REQUEST: &[u8; 110] =
+    b"GET /v1/epoch/1/closing HTTP/1.1\r\nHost: store.example:8080\r\nUser-Agent: client/1.0\r\nAccept: */*\r\nX-N: 1234\r\n\r\n";
 
 /// All requests of a connection.
 pub fn requests(alloc: Global) -> Result<Vec<u8>, AllocError> {
@@ -30,7 +31,7 @@ pub struct Counts {
 }
 
 impl Counts {
-    pub fn new() -> Counts {
+    fn new() -> Counts {
         Counts {
             answered: 0,
             read: 0,
@@ -39,8 +40,8 @@ impl Counts {
         }
     }
 
-    /// Adds those of another connection.
-    pub fn add(&mut self, other: &Counts) {
+    // Adds those of another connection.
+    fn add(&mut self, other: &Counts) {
         self.answered = self.answered.saturating_add(other.answered);
         self.read = self.read.saturating_add(other.read);
         self.written = self.written.saturating_add(other.written);
@@ -48,9 +49,9 @@ impl Counts {
     }
 }
 
-/// Serves one connection that sends these bytes in pieces. A session that doesn't end well answers no
-/// request here.
-pub fn serve<R: Wait>(rt: &R, alloc: Global, input: &[u8], piece: usize) -> Counts {
+// Serves one connection that sends these bytes in pieces. A session that doesn't end well answers no
+// request here.
+fn serve<R: Wait>(rt: &R, alloc: Global, input: &[u8], piece: usize) -> Counts {
     let mut link = Counting::new(input, piece);
     let answered = serve_connection(rt, alloc, &mut link, &mut Prompt).unwrap_or(0);
     Counts {
@@ -59,4 +60,19 @@ pub fn serve<R: Wait>(rt: &R, alloc: Global, input: &[u8], piece: usize) -> Coun
         written: link.written,
         moved: link.moved,
     }
+}
+
+/// Serves so many connections, each of which sends these bytes in pieces.
+pub fn serve_all<R: Wait>(
+    rt: &R,
+    alloc: Global,
+    input: &[u8],
+    connections: u32,
+    piece: usize,
+) -> Counts {
+    let mut counts = Counts::new();
+    for _ in 0..connections {
+        counts.add(&serve(rt, alloc, input, piece));
+    }
+    counts
 }

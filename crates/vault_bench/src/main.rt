@@ -1,4 +1,4 @@
-//! Times reservations of one leaf over a file, for `bench/vault`, which sets them beside the same writes
+//! Times reservations of one leaf over a file, for `bench/layers`, which sets them beside the same writes
 //! and syncs in C:
 //!
 //!     vault_bench FILE COUNT
@@ -6,8 +6,6 @@
 //! FILE isn't there before, or is blank. It prints nanoseconds and how many leaves are reserved at the
 //! end. Other words, or none, get one fixed line, over a disk in memory.
 #![tactic(auto)]
-
-ghost use Rattle.std.specs.Prelude.{◌≤◌, IsTrue};
 
 mod reserving;
 

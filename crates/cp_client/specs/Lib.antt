@@ -1,0 +1,4 @@
+pub mod Asking
+pub mod Accepting
+pub mod View
+pub mod Laws

@@ -1,0 +1,24 @@
+//! The client: what a writer and a reader ask a store, and the check of what the store answered.
+#![tactic(auto)]
+
+mod accepted;
+mod accepting;
+mod asked;
+mod asking;
+mod comparing;
+mod field;
+mod head;
+pub mod laws;
+mod refusals;
+
+pub use accepted::Accepted;
+pub use accepting::accept;
+pub use asked::{Asked, AskedPut};
+pub use asking::ask_put;
+pub use field::Field;
+pub use refusals::{AskRefusal, ClientRefusal};
+
+#[cfg(test)]
+mod tests;
+#[cfg(test)]
+mod vectors;

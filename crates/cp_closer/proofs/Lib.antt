@@ -1,0 +1,10 @@
+pub mod Puts
+pub mod Bounds
+pub mod Inserts
+pub mod Weights
+pub mod Views
+pub mod Lives
+pub mod LifeSeals
+pub mod Following
+pub mod Shares
+pub mod Fitting

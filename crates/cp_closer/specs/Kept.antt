@@ -1,0 +1,39 @@
+-- What every closer keeps (this project's own). No public clause cites this module.
+use Rattle.std.specs.Prelude.{ℕ, ◌+◌, ◌<◌, ◌≤◌, ◌^◌, ◌≡◌, length}
+use Rattle.std.specs.List.{AllByRecursion}
+use Rattle.cp_core.specs.declared.phase.Phase.{Phase}
+use Rattle.cp_core.specs.declared.phase.Phase.TheVariants.{Running, Half, Full, Sealed}
+use Rattle.cp_core.specs.Frozen.{Gained}
+use Rattle.cp_core.specs.Frozen.{Part}
+use Rattle.cp_closer.specs.Taken.{entries_in, entries_of_shard}
+use Rattle.cp_closer.specs.Closer.{CloserState}
+
+-- how many parts were taken
+abbrev pub taken_in : Phase → ℕ
+taken_in (Running e) = 0
+taken_in (Half e k) = k
+taken_in (Full e) = 16
+taken_in (Sealed e) = 0
+
+-- the epoch is one that can be closed, fewer than sixteen parts make a half, and there is a seal for each
+-- epoch before, and one for the phase's where it is sealed
+abbrev pub PhaseFits : ℕ → ℕ → Phase → Type 0
+PhaseFits closings seals (Running e) = (seals + 1 ≡ e) × (e ≤ closings + 1)
+PhaseFits closings seals (Half e k) = (seals + 1 ≡ e) × (e ≤ closings) × (k < 16)
+PhaseFits closings seals (Full e) = (seals + 1 ≡ e) × (e ≤ closings)
+PhaseFits closings seals (Sealed e) = (seals ≡ e) × (1 ≤ e) × (e ≤ closings)
+
+-- each number of the log fits its field
+pub record BlockIsSmall (x : Gained) : Type 0 where
+  pub filled : 1 ≤ length x.entries
+  pub short : AllByRecursion (λ text. length text < 2 ^ 32) x.entries
+
+pub record PartIsSmall (part : Part) : Type 0 where
+  pub blocks : AllByRecursion BlockIsSmall part.blocks
+  pub few : entries_in part ≤ 2 ^ 27
+
+pub record IsKept (c : CloserState) : Type 0 where
+  pub within : c.closings ≤ c.leaves
+  pub phase : PhaseFits c.closings (length c.seals) c.phase
+  pub parts : AllByRecursion PartIsSmall c.parts
+  pub few : (shard : ℕ) → entries_of_shard c.tips shard ≤ 2 ^ 27

@@ -1,0 +1,7 @@
+pub mod Taken
+pub mod Closer
+pub mod Kept
+pub mod View
+pub mod Inside
+pub mod Pendings
+pub mod Laws

@@ -1,0 +1,16 @@
+pub mod Booking
+pub mod Life
+pub mod Store
+pub mod Requests
+pub mod Leaves
+pub mod Calls
+pub mod Sealing
+pub mod Machine
+pub mod Running
+pub mod Honest
+pub mod Kept
+pub mod Laws
+pub mod Tables
+pub mod View
+pub mod Admitting
+pub mod Frozen

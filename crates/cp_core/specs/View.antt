@@ -1,0 +1,17 @@
+-- What contracts see of the plain store.
+use Rattle.cp_core.specs.Store.{Store}
+use Rattle.cp_core.specs.Machine.{State}
+use Rattle.cp_core.specs.declared.machine.Machine.{Machine}
+
+-- what it was made with
+abbrev pub store_view : Machine → Store
+store_view m = record { id = m.store; families = m.families; attestations = m.attestations; closings = m.closings; pages = m.pages }
+
+-- and how it stands
+abbrev pub state_view : Machine → State
+state_view m = record { life = m.life; contents = m.contents.items; phase = m.phase; published = m.published; drawn = m.drawn }
+
+-- both together
+pub record Standing : Type 0 where
+  pub store : Store
+  pub state : State

@@ -1,0 +1,7 @@
+pub mod SignedTexts
+pub mod Envelopes
+pub mod Members
+pub mod Frames
+pub mod SegmentsOfLife
+pub mod NoFraming
+pub mod HonestLemmas

@@ -1,0 +1,8 @@
+//! What evidence can't do: no bytes convict an honest store.
+#![tactic(auto)]
+
+mod audit_laws;
+mod laws;
+
+pub use audit_laws::honest_is_clean;
+pub use laws::{no_run_is_framed, unframeable};

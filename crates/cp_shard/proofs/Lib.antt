@@ -1,0 +1,12 @@
+pub mod Texts
+pub mod Runs
+pub mod Grows
+pub mod PutPages
+pub mod Holding
+pub mod Putting
+pub mod Keeping
+pub mod Views
+pub mod NextRow
+pub mod StepLaws
+pub mod Lookups
+pub mod Whole

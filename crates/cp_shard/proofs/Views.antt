@@ -1,0 +1,28 @@
+-- What is seen of a shard.
+use Rattle.std.proofs.Common.{◌≡◌, ℕ, ◌+◌, List, [], ◌∷◌, ◌++◌, refl, sym, ap, subst, ◌∙◌}
+use Rattle.cp_core.specs.Calls.{epoch_now}
+use Rattle.cp_core.specs.declared.content.Content.{Content}
+use Rattle.cp_core.specs.declared.item.Item.{Item}
+use Rattle.cp_core.specs.declared.item.Item.TheVariants.{Frozen}
+use Rattle.cp_shard.specs.Model.{ShardModel}
+use Rattle.cp_shard.specs.Contents.{contents_of, put_blocks}
+use Rattle.cp_shard.proofs.Holding.{view_same, view_frozen}
+
+-- what holds of the value holds of the fields
+pub carried : (P : ShardModel → Type 0) (v w : ShardModel) → v ≡ w → P w → P v
+carried P v w e h = subst P (sym e) h
+
+pub frozen_view : (store : List ℕ) (index pages closings epoch : ℕ) (items now : List Item) (f : ℕ → List ℕ) → now ≡ items ++ Frozen epoch ∷ [] → epoch ≡ epoch_now items
+    → ◌≡◌ {A = ShardModel} (record { store = store; index = index; pages = pages; closings = closings; items = now; contents = contents_of (put_blocks now) f })
+    (record { store = store; index = index; pages = pages; closings = closings; items = items ++ Frozen (epoch_now items) ∷ []; contents = contents_of (put_blocks items) f })
+frozen_view store index pages closings epoch items now f is at =
+    ap (λ (xs : List Item). record { store = store; index = index; pages = pages; closings = closings; items = xs; contents = contents_of (put_blocks xs) f }) (is ∙ ap (λ e. items ++ Frozen e ∷ []) at)
+    ∙ ap (λ (cs : List Content). record { store = store; index = index; pages = pages; closings = closings; items = items ++ Frozen (epoch_now items) ∷ []; contents = cs }) (view_frozen items (epoch_now items) f)
+
+-- where the contents read the same
+pub same_view : (store : List ℕ) (index pages closings : ℕ) (items now : List Item) (f g : ℕ → List ℕ) → now ≡ items → ((b : ℕ) → g b ≡ f b)
+    → ◌≡◌ {A = ShardModel} (record { store = store; index = index; pages = pages; closings = closings; items = now; contents = contents_of (put_blocks now) g })
+    (record { store = store; index = index; pages = pages; closings = closings; items = items; contents = contents_of (put_blocks items) f })
+same_view store index pages closings items now f g is same =
+    ap (λ (xs : List Item). record { store = store; index = index; pages = pages; closings = closings; items = xs; contents = contents_of (put_blocks xs) g }) is
+    ∙ ap (λ (cs : List Content). record { store = store; index = index; pages = pages; closings = closings; items = items; contents = cs }) (view_same items g f same)

@@ -1,0 +1,18 @@
+use Rattle.std.proofs.Common.{◌≡◌, ℕ, sym, ap, subst, ◌∙◌}
+use Rattle.cp_chain.specs.Each.{Each}
+use Rattle.cp_core.specs.Honest.{IsItemOf}
+use Rattle.cp_core.specs.Calls.{content_at, latest_of}
+use Rattle.cp_core.specs.Kept.{IsContentOf}
+use Rattle.cp_shard.specs.Standings.{run_at}
+use Rattle.cp_shard.proofs.Holding.{content_seen}
+use Rattle.cp_shard.proofs.Views.{carried}
+use Rattle.cp_shard.proofs.shard.Shard.stands_rightly.Goals as goal
+
+pub returns-clause-items : goal.returns-clause-items
+returns-clause-items c = carried (λ v. Each (IsItemOf v.index) v.items) _ _ (sym c.self.view_is) c.self.invariant.each
+
+pub returns-clause-contents : goal.returns-clause-contents
+returns-clause-contents c =
+    let s = c.self.inside in let has = c.self.invariant.has_contents in
+    λ b. carried (λ v. IsContentOf (latest_of v.items b) (content_at v.contents b)) _ _ (sym c.self.view_is)
+    (subst (IsContentOf (latest_of s.items.items b)) (sym (content_seen s.items.items s.pages (run_at s.standings) s.pool b has)) (has.hashed b))

@@ -1,0 +1,11 @@
+pub mod Model
+pub mod Asked
+pub mod Standings
+pub mod Contents
+pub mod Places
+pub mod Kept
+pub mod Booked
+pub mod Refusals
+pub mod Released
+pub mod Steps
+pub mod Laws

@@ -1,0 +1,24 @@
+//! A shard: the blocks whose numbers leave one remainder modulo 16, with the entries of their chains,
+//! how each block stands, its latest content in a pool of pages, and an index of the epoch's calls, by
+//! which a repeat is answered as the first time. A call takes time that grows with the logarithms of
+//! the number of blocks and of the epoch's calls, and no list is walked.
+#![tactic(auto)]
+
+mod appending;
+mod booking;
+mod call;
+mod drawing;
+mod early;
+mod get;
+mod key;
+pub mod laws;
+mod put;
+mod room;
+mod shard;
+mod standing;
+
+pub use cp_bytes::OutOfMemory;
+pub use shard::Shard;
+
+#[cfg(test)]
+mod tests;

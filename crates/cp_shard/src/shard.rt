@@ -1,0 +1,117 @@
+//! A shard of a store.
+ghost use Rattle.std.specs.Prelude.{ℕ, ◌≡◌, ◌≤◌, ◌<◌, ◌^◌, [], ◌∷◌, ◌++◌, length, IfOk};
+ghost use Rattle.cp_core.specs.Calls.{epoch_now};
+ghost use Rattle.cp_core.specs.declared.item.Item.TheVariants.{Frozen};
+
+use crate::call::Call;
+use crate::key::Key;
+use crate::standing::Standing;
+use cp_bytes::OutOfMemory;
+use cp_core::{Item, Items};
+use cp_pages::Pool;
+use std::alloc::Global;
+use std::collections::BTreeMap;
+use std::marker::Model;
+
+/// One of the sixteen shards of a store (this project's own): its items, how each block stands, each
+/// block's latest content, and the calls of the epoch that it is in. Contracts see its items and
+/// contents.
+#[derive(Drop)]
+pub struct Shard {
+    /// SHA-256 of the store's key.
+    pub(crate) store: [u8; 32],
+    /// Which of the sixteen it is.
+    pub(crate) index: u32,
+    /// The pages of the pool.
+    pub(crate) pages: u32,
+    /// How many freezes there is room for.
+    pub(crate) closings: u32,
+    /// The epoch that it is in.
+    pub(crate) epoch: u64,
+    /// The items, oldest first, with room for the freezes to come.
+    pub(crate) items: Vec<Item>,
+    /// This epoch's calls, oldest first.
+    pub(crate) calls: Vec<Call>,
+    /// Where each of them stands among them.
+    pub(crate) places: BTreeMap<Key, usize>,
+    /// Each block's tip and the run of its latest content.
+    pub(crate) standings: BTreeMap<u64, Standing>,
+    /// The contents.
+    pub(crate) pool: Pool,
+}
+
+impl Model for Shard {
+    ghost use Rattle.cp_shard.specs.Model.{ShardModel};
+
+    ghost Value = { ShardModel };
+
+    ghost use Rattle.std.specs.Vec.{vec_capacity};
+    ghost use Rattle.cp_shard.specs.Contents.{contents_of, put_blocks};
+    ghost use Rattle.cp_shard.specs.Standings.{run_at, content_in};
+    ghost use Rattle.cp_shard.specs.Kept.{Keeps};
+
+    ghost view = { λ s. record { store = s.store; index = s.index; pages = s.pages; closings = s.closings; items = s.items.items; contents = contents_of (put_blocks s.items.items) (λ b. content_in s.pool (run_at s.standings b)) } };
+
+    ghost invariant = { λ s. Keeps s.store s.index s.pages s.closings s.epoch (vec_capacity s.items) s.items.items s.calls.items s.standings s.places s.pool };
+}
+
+impl Shard {
+    /// A shard in epoch 1, with no item, with so many free pages of 1,024 bytes each, and with room for
+    /// the items of `closings` freezes, which each later growth keeps.
+    pub fn new(
+        alloc: Global,
+        store: [u8; 32],
+        index: u32,
+        pages: u32,
+        closings: u32,
+    ) -> Result<Shard, OutOfMemory>
+        ensures { IfOk result (λ s. s ≡ record { store = store; index = index; pages = pages; closings = closings; items = []; contents = [] }) }
+    {
+        let items = Vec::with_capacity(alloc, closings as usize)?;
+        let pool = Pool::new(alloc, pages)?;
+        Ok(Shard {
+            store,
+            index,
+            pages,
+            closings,
+            epoch: 1,
+            items,
+            calls: Vec::new(alloc),
+            places: BTreeMap::new(alloc),
+            standings: BTreeMap::new(alloc),
+            pool,
+        })
+    }
+
+    /// The epoch that the shard is in: 1 and the number of its freezes.
+    pub fn current(&self) -> u64
+        ensures { result ≡ epoch_now self.now.items }
+    {
+        self.epoch
+    }
+
+    /// The number of items.
+    pub fn items(&self) -> u64
+        ensures { result ≡ length self.now.items }
+    {
+        self.items.len() as u64
+    }
+
+    /// Hands the items out. It takes no memory.
+    pub fn into_items(self) -> Items
+        ensures { result ≡ self.items }
+    {
+        Items::from_vec(self.items)
+    }
+
+    /// Ends the epoch and starts the next one. It takes no memory.
+    pub fn freeze(&mut self)
+        requires { epoch_now self.old.items ≤ self.old.closings }
+        ensures { self.new ≡ record self.old { items = self.old.items ++ Frozen (epoch_now self.old.items) ∷ [] } }
+    {
+        self.items.push_reserved(Item::Frozen(self.epoch));
+        self.places.clear();
+        self.calls.clear();
+        self.epoch += 1;
+    }
+}
