@@ -204,3 +204,74 @@ fn events_out_of_their_phase_are_not_now(rt: HostRuntime) -> Result<(), Fail> {
     assert!(rt; runs(rt.alloc(), 64, &steps, lines)?);
     Ok(())
 }
+
+// The sixteen freezes of an epoch.
+fn push_freezes(steps: &mut Vec<Step>) -> Result<(), Fail> {
+    for shard in 0..16 {
+        steps.push(Step::Freeze(shard))?;
+    }
+    Ok(())
+}
+
+#[test]
+fn the_twenty_ninth_get_finds_no_leaf(rt: HostRuntime) -> Result<(), Fail> {
+    let mut steps = Vec::new(rt.alloc());
+    for nonce in 0..29 {
+        steps.push(Step::Get(nonce, 1))?;
+    }
+    let lines = answers(rt.alloc(), 64, steps.as_slice())?;
+    assert!(rt;
+        lines.as_str().ends_with(
+            "\nget position=27 version=0 leaf=27 content=0\nCallRefused(LeavesOver(LeavesOver { drawn: 28, limit: 28 }))\n"
+        )
+    );
+    Ok(())
+}
+
+#[test]
+fn the_fifth_closing_finds_no_leaf(rt: HostRuntime) -> Result<(), Fail> {
+    let mut steps = Vec::new(rt.alloc());
+    for _ in 0..4 {
+        steps.push(Step::Begin)?;
+        push_freezes(&mut steps)?;
+        steps.push(Step::Seal)?;
+        steps.push(Step::Publish)?;
+    }
+    steps.push(Step::Begin)?;
+    let lines = answers(rt.alloc(), 64, steps.as_slice())?;
+    assert!(rt;
+        lines.as_str().ends_with("Done\nCloseRefused(ClosingsOver { sealed: 4, limit: 4 })\n")
+    );
+    Ok(())
+}
+
+#[test]
+fn a_closing_comes_to_its_end(rt: HostRuntime) -> Result<(), Fail> {
+    let mut steps = Vec::new(rt.alloc());
+    steps.push(Step::Begin)?;
+    push_freezes(&mut steps)?;
+    let last = [
+        Step::Begin,
+        Step::Freeze(0),
+        Step::Publish,
+        Step::Seal,
+        Step::Begin,
+        Step::Freeze(0),
+        Step::Seal,
+        Step::Publish,
+        Step::Read(1),
+        Step::Get(1, 1),
+    ];
+    for step in &last {
+        steps.push(*step)?;
+    }
+    let lines = answers(rt.alloc(), 64, steps.as_slice())?;
+    let full =
+        "Done\nNotNow { phase: Full { epoch: 1 } }\nNotNow { phase: Full { epoch: 1 } }\nNotNow { phase: Full { epoch: 1 } }\nDone\n";
+    let sealed =
+        "NotNow { phase: Sealed { epoch: 1 } }\nNotNow { phase: Sealed { epoch: 1 } }\nNotNow { phase: Sealed { epoch: 1 } }\nDone\nText(1)\nCallRefused(WrongEpoch { current: 2 })\n";
+    let text = lines.as_str();
+    let end = format!(in rt.alloc(); "{full}{sealed}")?;
+    assert!(rt; text.ends_with(end.as_str()));
+    Ok(())
+}
