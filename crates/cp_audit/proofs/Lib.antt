@@ -1,0 +1,14 @@
+pub mod Signed
+pub mod GetText
+pub mod HeadLemmas
+pub mod TableLemmas
+pub mod TakingLemmas
+pub mod PartLemmas
+pub mod LogLemmas
+pub mod HandInLemmas
+pub mod ViewLemmas
+pub mod RegressLemmas
+pub mod LookupLemmas
+pub mod FaultLemmas
+pub mod GivenLemmas
+pub mod RowLemmas
