@@ -4,4 +4,3 @@ pub mod Searching
 pub mod Merging
 pub mod Exact
 pub mod Ordered
-pub mod RowBlocks
