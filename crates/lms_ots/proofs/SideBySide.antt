@@ -1,14 +1,15 @@
 -- Steps of chains that go on side by side.
-use Rattle.std.proofs.Common.{◌≡◌, ◌≢◌, ◌⊎◌, ℕ, zero, suc, ◌+◌, ◌-◌, ◌*◌, ◌<◌, ◌≤◌, min, List, [], ◌∷◌, ◌++◌, add-one, append_assoc, length, slice_index, slice_index_or, slice_set, refl, ap, sym, subst, ◌∙◌, inl, inr, arith, below_more}
+use Rattle.std.proofs.Common.{◌≡◌, ◌≢◌, ◌⊎◌, ℕ, zero, suc, ◌+◌, ◌-◌, ◌*◌, ◌<◌, ◌≤◌, min, List, [], ◌∷◌, ◌++◌, add-one, append_assoc, length, take, slice_index, slice_index_or, slice_set, refl, ap, sym, subst, ◌∙◌, inl, inr, arith, below_more}
 use Rattle.std.proofs.lemmas.Bool.{cases_eq, cases_lt}
 use Rattle.std.proofs.lemmas.List.{append-nil, get_or-set_same, get_or-set_other}
 use Rattle.std.proofs.Math.ListN.{length-set}
 use Rattle.sha2.specs.Sha256.{sha256}
-use Rattle.lms_ots.specs.Parameters.{max_digit}
-use Rattle.lms_ots.specs.Ots.{steps, tagged, chain, coef, y_at, candidate_ends}
-use Rattle.lms_ots.specs.Signing.{secret_start, public_ends, signed_chains}
+use Rattle.lms_ots.specs.declared.ots_type.OtsType.{OtsType}
+use Rattle.lms_ots.specs.Parameters.{chains_of, max_digit, width_of}
+use Rattle.lms_ots.specs.Ots.{steps, d_pblc, tagged, chain, coef, y_at, candidate_ends}
+use Rattle.lms_ots.specs.Signing.{one_time_key, secret_start, public_ends, signed_chains}
 use Rattle.lms_ots.specs.Lanes.{Advanced, joined_to}
-use Rattle.lms_ots.proofs.Signed.{steps-add}
+use Rattle.lms_ots.proofs.Signed.{part-long, public_ends-more, steps-add}
 
 -- one step more
 pub steps-next : (id : List ℕ) (q i first k : ℕ) (x v m d : List ℕ) → m ≡ tagged id q i ++ ((first + k) ∷ v)
@@ -161,3 +162,23 @@ joined-candidate id q w s sig values zero each = refl
 joined-candidate id q w s sig values (suc n) each =
     let before : joined_to values n ≡ candidate_ends id q w s sig n = joined-candidate id q w s sig values n (λ i lt. each i (omega arith)) in
     rw (before, each n (omega arith)) refl
+
+-- one more end in the text whose hash is a key
+pub end-more : (id : List ℕ) (q w i at : ℕ) (secret old new d : List ℕ) → at ≡ 22 + 32 * i
+    → take at old ≡ tagged id q d_pblc ++ public_ends id q w secret i → take (at + length d) new ≡ take at old ++ d
+    → d ≡ chain id q i 0 (max_digit w) (secret_start id q i secret)
+    → take (22 + 32 * (i + 1)) new ≡ tagged id q d_pblc ++ public_ends id q w secret (i + 1)
+end-more id q w i at secret old new d at_is held put_is d_is =
+    let long : length d ≡ 32 = ap length d_is ∙ part-long id q i (max_digit w) secret in
+    let all : 22 + 32 * (i + 1) ≡ at + length d = omega arith in
+    ap (λ n. take n new) all
+    ∙ put_is
+    ∙ ap (λ y. y ++ d) held
+    ∙ sym (public_ends-more id q w secret (tagged id q d_pblc) i d d_is)
+
+-- the key of a leaf, as the hash of its text
+pub key-of_text : (t : OtsType) (id : List ℕ) (q k : ℕ) (secret text d : List ℕ) → k ≡ q
+    → text ≡ tagged id q d_pblc ++ public_ends id q (width_of t) secret (chains_of t)
+    → d ≡ sha256 text → d ≡ one_time_key t id k secret
+unfolding one_time_key
+key-of_text t id q k secret text d k_is text_is d_is = rw k_is (d_is ∙ ap sha256 text_is)

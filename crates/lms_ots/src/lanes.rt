@@ -8,6 +8,7 @@ ghost use Rattle.lms_ots.specs.Signing.{one_time_key, ots_signature, secret_star
 ghost use Rattle.lms_ots.specs.Lanes.{joined_to};
 
 mod four;
+mod keys;
 mod running;
 mod secrets;
 #[cfg(test)]
@@ -21,6 +22,7 @@ use crate::ots_type::OtsType;
 use crate::signing::{RANDOMIZER, secret_start};
 use crate::verifying::{D_PBLC, max_digit, message_hash, with_cksm, y_at};
 use cp_bytes::put;
+pub use keys::ots_publics;
 use sha2::{Digest, Sha256};
 
 // The most chains that a type has.

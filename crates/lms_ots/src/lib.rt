@@ -14,6 +14,6 @@ mod verifying;
 
 pub use chains::tagged;
 pub use digits::{cksm, coef};
-pub use lanes::{ots_candidate, ots_public, ots_sign};
+pub use lanes::{ots_candidate, ots_public, ots_publics, ots_sign};
 pub use ots_type::OtsType;
 pub use signing::what_is_signed_leads_to_its_key;

@@ -1,5 +1,5 @@
 -- What holds of each height.
-use Rattle.std.proofs.Common.{◌≡◌, ◌^◌, ◌<◌, ◌≤◌, refl, arith}
+use Rattle.std.proofs.Common.{◌≡◌, ◌%◌, ◌^◌, ◌<◌, ◌≤◌, refl, arith}
 use Rattle.lms_tree.specs.Parameters.{levels_of, height_code, height_of_code}
 use Rattle.lms_tree.specs.declared.height.Height.{Height}
 use Rattle.lms_tree.specs.declared.height.Height.TheVariants.{H5, H10, H15}
@@ -13,6 +13,11 @@ pub some_leaves : (h : Height) → 2 ≤ 2 ^ levels_of h
 some_leaves H5 = omega arith
 some_leaves H10 = omega arith
 some_leaves H15 = omega arith
+
+pub fours_of_leaves : (h : Height) → 2 ^ levels_of h % 4 ≡ 0
+fours_of_leaves H5 = refl
+fours_of_leaves H10 = refl
+fours_of_leaves H15 = refl
 
 pub few_levels : (h : Height) → levels_of h ≤ 15
 few_levels H5 = omega arith
@@ -29,4 +34,4 @@ height_code_fits H5 = omega arith
 height_code_fits H10 = omega arith
 height_code_fits H15 = omega arith
 
-pub ruleset heights = (few_leaves, some_leaves, few_levels)
+pub ruleset heights = (few_leaves, some_leaves, fours_of_leaves, few_levels)

@@ -1,5 +1,5 @@
 -- The nodes by their recursion upwards.
-use Rattle.std.proofs.Common.{◌≡◌, ◌≢◌, inl, inr, get_or, set, get_or-set_other, get_or-set_same, ℕ, zero, suc, ◌+◌, ◌-◌, ◌*◌, ◌^◌, ◌<◌, ◌≤◌, ◌++◌, List, length, take, refl, ap, sym, ◌∙◌, arith, rules, nat_lt, true, false}
+use Rattle.std.proofs.Common.{◌≡◌, ◌≢◌, inl, inr, get_or, set, get_or-set_other, get_or-set_same, ℕ, zero, suc, ◌+◌, ◌-◌, ◌*◌, ◌^◌, ◌<◌, ◌≤◌, ◌++◌, List, [], length, take, refl, ap, sym, ◌∙◌, arith, rules, nat_lt, true, false}
 use Rattle.std.proofs.lemmas.Bool.Decides.{nat_tests}
 use Rattle.std.proofs.lemmas.Bool.{cases_lt}
 use Rattle.std.proofs.lemmas.List.{get_or-append_right, get_or_append_left, places}
@@ -111,6 +111,23 @@ filled_more key nodes s r a b x filled s_is long pos lt x_is k d le k_lt =
           ∙ ap (λ y. inner_node key.id r y (get_or nodes (2 * r + 1) b)) (filled (2 * r) a (omega arith) (omega arith))
           ∙ ap (λ y. inner_node key.id r (node key (2 * r)) y) (filled (2 * r + 1) b (omega arith) (omega arith))
           ∙ sym (node_inner key r pos lt))
+    ]
+
+-- four leaves more
+pub fours_more : (want : ℕ → List ℕ) (first g i : ℕ) (old new four : List (List ℕ)) → i ≡ first + 4 * g
+    → ((k : ℕ) (d : List ℕ) → k < 4 * g → get_or old k d ≡ want (first + k))
+    → ((j : ℕ) → j < 4 → get_or four j [] ≡ want (i + j))
+    → ((j : ℕ) (d : List ℕ) → j < 4 → get_or new (4 * g + j) d ≡ get_or four j [])
+    → ((k : ℕ) (d : List ℕ) → k < 4 * g → get_or new k d ≡ get_or old k d)
+    → (k : ℕ) (d : List ℕ) → k < 4 * (g + 1) → get_or new k d ≡ want (first + k)
+fours_more want first g i old new four i_is before wanted written others k d lt =
+    elim (cases_lt k (4 * g)) [
+      | inl front ↦ others k d front ∙ before k d front
+      | inr ge ↦
+          let lane : k - 4 * g < 4 = omega arith in
+          let back : 4 * g + (k - 4 * g) ≡ k = omega arith in
+          let there : i + (k - 4 * g) ≡ first + k = omega arith in
+          ap (λ n. get_or new n d) (sym back) ∙ written (k - 4 * g) d lane ∙ wanted (k - 4 * g) lane ∙ ap want there
     ]
 
 -- ---- the laws

@@ -5,7 +5,7 @@ ghost use Rattle.std.specs.Prelude.{◌≡◌, ℕ, List, [], ◌<◌, ◌≤◌
 ghost use Rattle.sha2.specs.Sha256.{digest_bytes, first_words, padded_message, sha256, word_at};
 ghost use Rattle.sha256_lanes.specs.Lanes.{lane};
 
-use crate::rounds::compress;
+use crate::rounds::{compress, start};
 use std::simd::u32x4;
 
 // The padding of a message of 55 bytes, at its place: a bit 1, and the length in bits, 440.
@@ -51,7 +51,7 @@ fn row(blocks: &[[u8; 64]; 4], at: usize) -> u32x4
 
 // The 16 words of the blocks, each block in its lane.
 #[inline(always)]
-fn gathered(blocks: &[[u8; 64]; 4]) -> [u32x4; 16]
+pub(crate) fn gathered(blocks: &[[u8; 64]; 4]) -> [u32x4; 16]
     ensures { (j : ℕ) → j < 4 → lane j result ≡ first_words (slice_index_or blocks.now j []) 16 }
 {
     [
@@ -90,7 +90,7 @@ fn digest_of(h: &[u32x4; 8], j: usize) -> [u8; 32]
 
 // The digests of the four lanes.
 #[inline(always)]
-fn digests_of(h: &[u32x4; 8]) -> [[u8; 32]; 4]
+pub(crate) fn digests_of(h: &[u32x4; 8]) -> [[u8; 32]; 4]
     ensures { (j : ℕ) → j < 4 → slice_index_or result j [] ≡ digest_bytes (lane j h.now) 8 }
 {
     [
@@ -107,7 +107,7 @@ fn digests(blocks: &[[u8; 64]; 4]) -> [[u8; 32]; 4]
         → slice_index_or result j [] ≡ sha256 m }
 {
     let words = gathered(blocks);
-    let h = compress(words);
+    let h = compress(start(), words);
     digests_of(&h)
 }
 

@@ -1,6 +1,8 @@
-//! Digests of 55-byte messages, made with Python's hashlib.
+//! Digests of 55-byte messages, made with Python's hashlib, those of NIST's examples for FIPS 180-4, and
+//! longer messages beside one lane.
 
-use crate::digests_of_55;
+use crate::{digests_of_55, digests_of_four};
+use sha2::{Digest, Sha256};
 
 // A message and its digest.
 const VECTORS: [([u8; 55], [u8; 32]); 6] = [
@@ -74,5 +76,71 @@ fn vectors_in_each_lane(rt: HostRuntime) {
                 rows[lane]
             );
         }
+    }
+}
+
+// A message of no, one or two blocks of its own and padding, in all lanes.
+#[test]
+fn nist_examples(rt: HostRuntime) {
+    let examples: [(&[u8], [u8; 32]); 3] = [
+        (
+            b"",
+            [
+                0xe3, 0xb0, 0xc4, 0x42, 0x98, 0xfc, 0x1c, 0x14, 0x9a, 0xfb, 0xf4, 0xc8, 0x99, 0x6f,
+                0xb9, 0x24, 0x27, 0xae, 0x41, 0xe4, 0x64, 0x9b, 0x93, 0x4c, 0xa4, 0x95, 0x99, 0x1b,
+                0x78, 0x52, 0xb8, 0x55,
+            ],
+        ),
+        (
+            b"abc",
+            [
+                0xba, 0x78, 0x16, 0xbf, 0x8f, 0x01, 0xcf, 0xea, 0x41, 0x41, 0x40, 0xde, 0x5d, 0xae,
+                0x22, 0x23, 0xb0, 0x03, 0x61, 0xa3, 0x96, 0x17, 0x7a, 0x9c, 0xb4, 0x10, 0xff, 0x61,
+                0xf2, 0x00, 0x15, 0xad,
+            ],
+        ),
+        (
+            b"abcdbcdecdefdefgefghfghighijhijkijkljklmklmnlmnomnopnopq",
+            [
+                0x24, 0x8d, 0x6a, 0x61, 0xd2, 0x06, 0x38, 0xb8, 0xe5, 0xc0, 0x26, 0x93, 0x0c, 0x3e,
+                0x60, 0x39, 0xa3, 0x3c, 0xe4, 0x59, 0x64, 0xff, 0x21, 0x67, 0xf6, 0xec, 0xed, 0xd4,
+                0x19, 0xdb, 0x06, 0xc1,
+            ],
+        ),
+    ];
+    for (message, digest) in examples {
+        let digests = digests_of_four(message, message, message, message);
+        assert_eq!(rt; digests, [digest; 4]);
+    }
+}
+
+// Bytes that differ from lane to lane and from place to place.
+fn message_of(lane: u8) -> [u8; 8502] {
+    let mut message = [0; 8502];
+    let mut next = lane;
+    for byte in message.iter_mut() {
+        *byte = next;
+        next = next.wrapping_mul(5).wrapping_add(lane);
+    }
+    message
+}
+
+// Each lane has a message of its own, at lengths around the edges of blocks and paddings.
+#[test]
+fn agrees_with_one_lane(rt: HostRuntime) {
+    let first = message_of(1);
+    let second = message_of(3);
+    let third = message_of(5);
+    let fourth = message_of(7);
+    for length in [0, 1, 55, 56, 63, 64, 65, 119, 120, 128, 8502] {
+        let end = length.min(8502);
+        let digests = digests_of_four(&first[..end], &second[..end], &third[..end], &fourth[..end]);
+        let one_by_one = [
+            Sha256::digest(&first[..end]),
+            Sha256::digest(&second[..end]),
+            Sha256::digest(&third[..end]),
+            Sha256::digest(&fourth[..end]),
+        ];
+        assert_eq!(rt; digests, one_by_one, "{end} bytes");
     }
 }

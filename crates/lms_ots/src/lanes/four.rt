@@ -1,5 +1,5 @@
-//! Some steps of four chains of one leaf, side by side.
-ghost use Rattle.std.specs.Prelude.{◌≡◌, ℕ, ◌+◌, ◌<◌, ◌≤◌, ◌++◌, ◌∷◌, [], take, slice_index, slice_index_or};
+//! Some steps of four chains, side by side.
+ghost use Rattle.std.specs.Prelude.{◌≡◌, ℕ, ◌+◌, ◌<◌, ◌≤◌, ◌++◌, ◌∷◌, [], List, length, take, slice_index, slice_index_or};
 ghost use Rattle.lms_ots.specs.Ots.{steps, tagged};
 
 use crate::chains::{put_step, step_message};
@@ -29,7 +29,29 @@ fn put_steps(messages: &mut [[u8; 55]; 4], first: &[u8; 4], k: u8, values: &[[u8
     }
 }
 
-// Four chains, each `count` steps on from its value `start` and its step `first`.
+// Four chains whose texts are given, each `count` steps on from its value `start` and its step
+// `first`.
+pub(crate) fn steps_of_texts(
+    texts: &[[u8; 55]; 4],
+    first: &[u8; 4],
+    count: u8,
+    start: &[[u8; 32]; 4],
+) -> [[u8; 32]; 4]
+    requires { (j : ℕ) → j < 4 → slice_index first.now j + count ≤ 256 }
+    ensures { (id : List ℕ) (q i j : ℕ) → length id ≡ 16 → j < 4 → take 22 (slice_index_or texts.now j []) ≡ tagged id q i
+        → slice_index_or result j [] ≡ steps id q i (slice_index first.now j) count (slice_index_or start.now j []) }
+{
+    let mut messages = *texts;
+    let mut values = *start;
+    'steps: for k in 0..count {
+        put_steps(&mut messages, first, k, &values);
+        let next = digests_of_55(&messages);
+        values = next;
+    }
+    values
+}
+
+// Four chains of one leaf, each `count` steps on from its value `start` and its step `first`.
 pub(crate) fn steps_of_four(
     id: &[u8; 16],
     q: u32,
@@ -41,12 +63,5 @@ pub(crate) fn steps_of_four(
     requires { (j : ℕ) → j < 4 → slice_index first.now j + count ≤ 256 }
     ensures { (j : ℕ) → j < 4 → slice_index_or result j [] ≡ steps id.now q (slice_index chains.now j) (slice_index first.now j) count (slice_index_or start.now j []) }
 {
-    let mut messages = step_messages(id, q, chains);
-    let mut values = *start;
-    'steps: for k in 0..count {
-        put_steps(&mut messages, first, k, &values);
-        let next = digests_of_55(&messages);
-        values = next;
-    }
-    values
+    steps_of_texts(&step_messages(id, q, chains), first, count, start)
 }

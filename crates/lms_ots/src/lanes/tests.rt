@@ -1,5 +1,5 @@
 //! Four chains side by side beside one after another.
-use crate::{OtsType, ots_candidate, ots_public, ots_sign, plain};
+use crate::{OtsType, ots_candidate, ots_public, ots_publics, ots_sign, plain};
 
 #[test]
 #[tactic(auto, using(crate::proofs::Types::types))]
@@ -23,5 +23,20 @@ fn lanes_agree_with_the_plain_bodies(rt: HostRuntime) {
             let other = ots_candidate(t, &id, q, b"other", by_lanes);
             assert_eq!(rt; other, plain::ots_candidate(t, &id, q, b"other", by_lanes));
         }
+    }
+}
+
+#[test]
+fn four_keys_agree_with_one_by_one(rt: HostRuntime) {
+    let id = [7; 16];
+    let secret = [3; 32];
+    for t in [OtsType::W1, OtsType::W2, OtsType::W4, OtsType::W8] {
+        let keys = [
+            plain::ots_public(t, &id, 4, &secret),
+            plain::ots_public(t, &id, 5, &secret),
+            plain::ots_public(t, &id, 6, &secret),
+            plain::ots_public(t, &id, 7, &secret),
+        ];
+        assert_eq!(rt; ots_publics(t, &id, 4, &secret), keys, "{t:?}");
     }
 }
