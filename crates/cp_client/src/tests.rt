@@ -3,7 +3,7 @@ use crate::{AskRefusal, Asked, ClientRefusal, Field, accept, ask_put};
 use cp_bytes::{digest, head};
 use cp_outside::MemDisk;
 use cp_statements::{Attestation, Entry, GetRequest, Kind, Malformed, PutRequest};
-use key_vault::{LoadFault, Vault, VaultFile};
+use key_vault::{LoadFault, Refused, Vault};
 use lms_ots::OtsType;
 use lms_tree::{Height, PrivateKey};
 use std::test::Fail;
@@ -25,10 +25,16 @@ fn a_put_is_asked_once_for_each_leaf(rt: HostRuntime) -> Result<(), Fail> {
     let mut disk = MemDisk::new(alloc, 1 << 13, Vec::new(alloc))?;
     let id = digest(&key.public().bytes());
     let leaves = u64::from(key.leaves());
-    let Err(LoadFault::Blank { .. }) = VaultFile::load(&mut disk, id, leaves) else {
+    let Err(
+        Refused {
+            disk,
+            why: LoadFault::Blank { .. },
+        },
+    ) = Vault::load(&mut disk, id, leaves)
+    else {
         return Err("a new disk is blank".into());
     };
-    let Ok(vault) = Vault::format(&mut disk, id, leaves) else {
+    let Ok(vault) = Vault::format(disk, id, leaves) else {
         return Err("format".into());
     };
     let Ok((_, mut range)) = vault.reserve(1) else {

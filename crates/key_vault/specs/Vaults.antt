@@ -1,4 +1,4 @@
--- What callers see of a vault: its key, its number and its disk.
+-- What callers see of a vault: its key, its number and its disk, and of a file apart from its disk also which slot is current.
 use Rattle.std.specs.Prelude.{ℕ, List}
 use Rattle.std.specs.Borrow.{GName}
 use Rattle.cp_outside.specs.declared.disk.Disk as disk
@@ -28,6 +28,13 @@ module _ {K : Type 0} {g : disk.Ghosts K} where
   abbrev pub disk_name : Vault K g → GName
   disk_name vault = vault.disk.ghost_name
 
-  -- the file on it
-  abbrev pub file_of : Vault K g → VaultFile
-  file_of vault = vault.file
+  -- the key's id and its number of leaves
+  abbrev pub vault_id : Vault K g → List ℕ
+  vault_id vault = vault.file.id
+
+  abbrev pub vault_leaves : Vault K g → ℕ
+  vault_leaves vault = vault.file.leaves
+
+  -- how many leaves are reserved, which is the number of the first that isn't
+  abbrev pub vault_number : Vault K g → ℕ
+  vault_number vault = vault.file.reserved

@@ -1,9 +1,9 @@
-//! Why a vault refused.
+//! Why a vault refused, and the disk that it gives back.
 ghost use Rattle.std.specs.Prelude.{◌≡◌};
 ghost use Rattle.key_vault.specs.declared.faults.LoadFault.TheVariants as load;
 ghost use Rattle.key_vault.specs.declared.faults.VaultFault.TheVariants as vault;
 
-use cp_outside::Failed;
+use cp_outside::{Disk, Failed};
 
 /// The disk failed in this call.
 #[derive(Clone, Copy, Debug, PartialEq, Eq)]
@@ -29,6 +29,15 @@ pub enum VaultFault {
     Over { reserved: u64, leaves: u64 },
     /// The disk failed in this call.
     DiskFault,
+}
+
+/// A refused call: the disk that it was given, as the call left it, and why it was refused.
+#[derive(Drop)]
+pub struct Refused<'a, K: Disk, E> {
+    /// The disk, given back.
+    pub disk: &'a mut K,
+    /// Why the call was refused.
+    pub why: E,
 }
 
 impl From<Failed> for DiskFault {

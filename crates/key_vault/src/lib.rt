@@ -11,7 +11,7 @@ mod slots;
 mod vault;
 mod writes;
 
-pub use faults::{DiskFault, LoadFault, VaultFault};
+pub use faults::{DiskFault, LoadFault, Refused, VaultFault};
 pub use file::VaultFile;
 pub use law::ranges_are_disjoint;
 pub use range::LeafRange;

@@ -1,5 +1,5 @@
 //! What no clause says: worked rows, a fault at each call of the disk, and a crash at each moment.
-use crate::{LoadFault, Vault, VaultFault, VaultFile};
+use crate::{LoadFault, Refused, Vault, VaultFault};
 use cp_outside::MemDisk;
 use std::test::Fail;
 
@@ -14,12 +14,16 @@ const CALLS: u64 = 4;
 fn all_leaves_are_reserved_once(rt: HostRuntime) -> Result<(), Fail> {
     let alloc = rt.alloc();
     let mut disk = MemDisk::new(alloc, ROOM, Vec::new(alloc))?;
-    let Err(LoadFault::Blank { length }) = VaultFile::load(&mut disk, ID, 32) else {
+    let Err(refused) = Vault::load(&mut disk, ID, 32) else {
+        assert!(rt; false, "a new disk has no vault");
+        return Ok(());
+    };
+    let LoadFault::Blank { length } = refused.why else {
         assert!(rt; false, "a new disk is blank");
         return Ok(());
     };
     assert_eq!(rt; length, 0);
-    let Ok(vault) = Vault::format(&mut disk, ID, 32) else {
+    let Ok(vault) = Vault::format(refused.disk, ID, 32) else {
         assert!(rt; false, "format");
         return Ok(());
     };
@@ -38,17 +42,18 @@ fn all_leaves_are_reserved_once(rt: HostRuntime) -> Result<(), Fail> {
     }
     assert_eq!(rt; others.take(), None);
     assert_eq!(rt; vault.reserved(), 32);
-    let over = match vault.reserve(1) {
-        Ok(_) => None,
-        Err(fault) => Some(fault),
+    let Err(refused) = vault.reserve(1) else {
+        assert!(rt; false, "one leaf more than the key has");
+        return Ok(());
     };
     assert_eq!(rt;
-        over,
-        Some(VaultFault::Over {
+        refused.why,
+        VaultFault::Over {
             reserved: 32,
             leaves: 32
-        })
+        }
     );
+    assert_eq!(rt; found(refused.disk, ID, 32), Ok(32));
     Ok(())
 }
 
@@ -56,14 +61,20 @@ fn all_leaves_are_reserved_once(rt: HostRuntime) -> Result<(), Fail> {
 fn found(disk: &mut MemDisk, id: [u8; 32], leaves: u64) -> Result<u64, LoadFault> {
     match Vault::load(disk, id, leaves) {
         Ok(vault) => Ok(vault.reserved()),
-        Err(fault) => Err(fault),
+        Err(refused) => Err(refused.why),
     }
 }
 
 // Formats a blank disk and reserves twice, as far as it comes: the numbers of the reservations that
 // answered.
 fn reserve_twice(disk: &mut MemDisk, first: u64, second: u64) -> (Option<u64>, Option<u64>) {
-    let Err(LoadFault::Blank { .. }) = VaultFile::load(disk, ID, 32) else {
+    let Err(
+        Refused {
+            disk,
+            why: LoadFault::Blank { .. },
+        },
+    ) = Vault::load(disk, ID, 32)
+    else {
         return (None, None);
     };
     let Ok(vault) = Vault::format(disk, ID, 32) else {
