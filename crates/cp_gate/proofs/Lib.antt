@@ -1,5 +1,7 @@
 pub mod Histories
+pub mod Words
 pub mod Steps
+pub mod PlaceSteps
 pub mod Unloads
 pub mod Tokens
 pub mod Ends

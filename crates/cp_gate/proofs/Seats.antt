@@ -15,20 +15,20 @@ match_hit A B n m e h = subst (λ (b : Bool). MatchBool b A B) (eq-eqb n m e) h
 pub match_miss : (A B : Type 0) (n m : ℕ) → n ≢ m → MatchBool (n == m) A B → B
 match_miss A B n m ne h = subst (λ (b : Bool). MatchBool b A B) (ne_eqb n m ne) h
 
-pub kept_as : (T K I : Type 0) (key : K) (number words : ℕ) (me : Sitting T K I) (seen : List (List I)) (turns : List ℕ) (entered : Option ℕ) → me ≡ (seated key number seen turns entered, carried_at entered) → ((p : ℕ) → entered ≡ Some p → p < words) → length seen ≡ words → length turns ≡ words → IsSeated key number words me
-kept_as T K I key number words me seen turns entered is low sized turned = subst (IsSeated key number words) (sym is) (refl, low, sized, turned)
+pub kept_as : (T K I : Type 0) (key : K) (number places : ℕ) (me : Sitting T K I) (seen : List (List I)) (turns : List ℕ) (entered : Option ℕ) → me ≡ (seated key number seen turns entered, carried_at entered) → ((p : ℕ) → entered ≡ Some p → p < places) → length seen ≡ places → length turns ≡ places → IsSeated key number places me
+kept_as T K I key number places me seen turns entered is low sized turned = subst (IsSeated key number places) (sym is) (refl, low, sized, turned)
 
 -- the key of a seat is the gate's
-pub key_of : (T K I : Type 0) (key k' : K) (number words : ℕ) (me : Sitting T K I) (o : Option K) → IsSeated key number words me → me.0.key ≡ o → o ≡ Some k' → key ≡ k'
-key_of T K I key k' number words me o kept a b = let e : Some key ≡ Some k' = sym (ap (λ (m : Sitting T K I). m.0.key) kept.0) ∙ (a ∙ b) in cc
+pub key_of : (T K I : Type 0) (key k' : K) (number places : ℕ) (me : Sitting T K I) (o : Option K) → IsSeated key number places me → me.0.key ≡ o → o ≡ Some k' → key ≡ k'
+key_of T K I key k' number places me o kept a b = let e : Some key ≡ Some k' = sym (ap (λ (m : Sitting T K I). m.0.key) kept.0) ∙ (a ∙ b) in cc
 
 -- a step that leaves the key and the number leaves what a seat shows of them
-pub key_stays : (T K I : Type 0) (key : K) (number words : ℕ) (me : Sitting T K I) (v : View K I) (n : ℕ) (seen : List (List I)) (turns : List ℕ) (entered : Option ℕ) → IsSeated key number words me → v ≡ seated key n seen turns entered → v.key ≡ me.0.key
-key_stays T K I key number words me v n seen turns entered kept is = ap (λ (u : View K I). u.key) is ∙ sym (ap (λ (m : Sitting T K I). m.0.key) kept.0)
+pub key_stays : (T K I : Type 0) (key : K) (number places : ℕ) (me : Sitting T K I) (v : View K I) (n : ℕ) (seen : List (List I)) (turns : List ℕ) (entered : Option ℕ) → IsSeated key number places me → v ≡ seated key n seen turns entered → v.key ≡ me.0.key
+key_stays T K I key number places me v n seen turns entered kept is = ap (λ (u : View K I). u.key) is ∙ sym (ap (λ (m : Sitting T K I). m.0.key) kept.0)
 
 -- the seat, where it has entered this or nothing
-pub seat_in : (T K I : Type 0) (key : K) (number words : ℕ) (me : Sitting T K I) (entered : Option ℕ) → IsSeated key number words me → me.0.entered ≡ entered → me ≡ (seated key number (first_seen me.0.identities) me.0.turns entered, carried_at entered)
-seat_in T K I key number words me entered kept is = kept.0 ∙ (λ i. (seated key number (first_seen me.0.identities) me.0.turns (is i), carried_at (is i)))
+pub seat_in : (T K I : Type 0) (key : K) (number places : ℕ) (me : Sitting T K I) (entered : Option ℕ) → IsSeated key number places me → me.0.entered ≡ entered → me ≡ (seated key number (first_seen me.0.identities) me.0.turns entered, carried_at entered)
+seat_in T K I key number places me entered kept is = kept.0 ∙ (λ i. (seated key number (first_seen me.0.identities) me.0.turns (is i), carried_at (is i)))
 
 module _ {K I : Type 0} where
   abbrev pub says : TableId → Option K → ℕ → View K I → SeatModel K I

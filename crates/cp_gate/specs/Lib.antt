@@ -1,3 +1,4 @@
 pub mod Histories
 pub mod Models
+pub mod Words
 pub mod Rule

@@ -35,7 +35,7 @@ turn_more turns p = slice_set turns p (slice_index turns p + 1)
 module _ {K I : Type 0} where
   -- how many places the gate has
   abbrev pub places : GateModel K I → ℕ
-  places gate = gate.table.words
+  places gate = gate.table.slots
 
   -- the seat is this gate's
   abbrev pub IsSeatOf : GateModel K I → SeatModel K I → Type 0

@@ -183,5 +183,5 @@ module _ {T K I : Type 0} where
 
 -- the seat has this key and number, nothing is open in its view, and it has seen and entered so many places
 abbrev pub IsSeated : {T K I : Type 0} → K → ℕ → ℕ → Sitting T K I → Type 0
-IsSeated key number words me = (me ≡ (seated key number (first_seen me.0.identities) me.0.turns me.0.entered, carried_at me.0.entered))
-    × ((p : ℕ) → me.0.entered ≡ Some p → p < words) × (length (first_seen me.0.identities) ≡ words) × (length me.0.turns ≡ words)
+IsSeated key number places me = (me ≡ (seated key number (first_seen me.0.identities) me.0.turns me.0.entered, carried_at me.0.entered))
+    × ((p : ℕ) → me.0.entered ≡ Some p → p < places) × (length (first_seen me.0.identities) ≡ places) × (length me.0.turns ≡ places)

@@ -7,11 +7,14 @@ ghost use Rattle.cp_gate.specs.Histories.{seen_of, StartsWith, OthersAdd, SeatAd
 ghost use Rattle.cp_gate.specs.Models.{IsSeatOf, IsNewSeatOf, places, starts, entering, leaving, looking, told_of};
 ghost use Rattle.cp_gate.specs.Rule.{first_view};
 
+use crate::apart::{Apart, exchange};
 use crate::held::Held;
 use crate::refused::Refused;
-use crate::rule::{About, Arrive, Deal, EachInTurn, Enter, Gather, Leave, Look, Note, ReadNotes};
+use crate::rule::{
+    About, Arrive, Count, Deal, EachInTurn, Enter, Gather, Leave, Look, Note, ReadNotes,
+};
 use crate::seat::Seat;
-use crate::slots::{stow, unload, unstow, words_of};
+use crate::slots::{SPACE, stow, unload, unstow, words_of};
 use crate::stands_for::StandsFor;
 use crate::view::View;
 use atomic_table::Table;
@@ -21,7 +24,7 @@ use std::snapshot::Snapshot;
 use std::sync::Wait;
 
 type FirstSeat<T> = atomic_table::Seat<
-    Option<T>,
+    Apart<Option<T>>,
     View<<T as StandsFor>::Key, <T as StandsFor>::Item>,
 >;
 
@@ -29,7 +32,7 @@ type FirstSeat<T> = atomic_table::Seat<
 ///
 /// Contracts see which gate it is, its key, the number of its seats, and the history of each place when it was made.
 pub struct Gate<T: StandsFor> {
-    table: Table<Option<T>, View<T::Key, T::Item>, About<T>, EachInTurn, Global>,
+    table: Table<Apart<Option<T>>, View<T::Key, T::Item>, About<T>, EachInTurn, Global>,
     key: T::Key,
 }
 
@@ -42,12 +45,13 @@ impl<T: StandsFor + Drop> Drop for Gate<T> {
 impl<T: StandsFor> Model for Gate<T> {
     ghost use Rattle.std.specs.Prelude.{◌≡◌, ◌<◌, length};
     ghost use Rattle.cp_gate.specs.Models.{GateModel, starts};
+    ghost use Rattle.cp_gate.specs.Words.{word_of};
 
     ghost Value = { GateModel T.Key T.Item };
 
     ghost view = { λ s. record { table = s.table.shared.table_id; key = s.key; seats = s.table.shared.key.seats; start = starts (T.history s.key) 0 s.table.shared.key.values.value.items } };
 
-    ghost invariant = { λ s. (s.table.shared.key.key.value ≡ s.key) × (s.table.shared.table_id.words ≡ length s.table.shared.key.values.value.items) × (s.table.shared.table_id.slots ≡ length s.table.shared.key.values.value.items) × (0 < s.table.shared.table_id.words) };
+    ghost invariant = { λ s. (s.table.shared.key.key.value ≡ s.key) × (s.table.shared.table_id.words ≡ word_of (length s.table.shared.key.values.value.items)) × (s.table.shared.table_id.slots ≡ length s.table.shared.key.values.value.items) × (0 < s.table.shared.table_id.words) };
 }
 
 impl<T: StandsFor> Gate<T> {
@@ -137,16 +141,52 @@ impl<T: StandsFor> Gate<T> {
     {
         for _ in rt.forever() {
             let shared = &self.table.shared;
-            let word = shared.peek(place as usize);
+            let at = SPACE * place as usize;
+            let word = shared.peek(at);
             if word % 2 == 0 {
                 if let Some(held) = self.try_enter(seat, place, word) {
                     return held;
                 }
             } else {
-                shared.park(rt, place as usize, (word & 0xffff_ffff) as u32);
+                self.count_in(seat, place);
+                shared.park(rt, at, (word & 0xffff_ffff) as u32);
+                self.count_out(seat, place);
             }
         }
         unreachable!()
+    }
+
+    // Counts the seat among those that wait for the place, so that who leaves it wakes one.
+    fn count_in(&self, seat: &mut Seat<T>, place: u32)
+        requires seat { IsSeatOf self.now seat.old }
+        requires place { place < places self.now }
+        ensures { seat.new ≡ seat.old }
+    {
+        self.table
+            .shared
+            .fetch_add::<Count>(&mut seat.seat, SPACE * place as usize + 1, 1);
+    }
+
+    // Takes the seat out of that count.
+    fn count_out(&self, seat: &mut Seat<T>, place: u32)
+        requires seat { IsSeatOf self.now seat.old }
+        requires place { place < places self.now }
+        ensures { seat.new ≡ seat.old }
+    {
+        self.table
+            .shared
+            .fetch_sub::<Count>(&mut seat.seat, SPACE * place as usize + 1, 1);
+    }
+
+    // Wakes a thread that waits for the place, if one does.
+    fn wake(&self, place: u32)
+        requires { place < places self.now }
+    {
+        let shared = &self.table.shared;
+        let at = SPACE * place as usize;
+        if shared.peek(at + 1) > 0 {
+            shared.wake_one(at);
+        }
     }
 
     // Enters, if the word of the place is still the one that was read.
@@ -164,11 +204,11 @@ impl<T: StandsFor> Gate<T> {
             × (seen_of seat.new.seen place ≡ T.history self.now.key place held.value)) }
     {
         let shared = &self.table.shared;
-        let at = place as usize;
+        let at = SPACE * place as usize;
         if shared.compare_exchange::<Enter>(&mut seat.seat, at, word, word + 1) != word {
             return None;
         }
-        let value = shared.exchange(&mut seat.seat, at, None).unwrap();
+        let value = exchange(shared, &mut seat.seat, place as usize, None).unwrap();
         Some(Held { value, place })
     }
 
@@ -199,12 +239,12 @@ impl<T: StandsFor> Gate<T> {
         ensures here { seen_of seat.new.seen place ≡ T.history self.now.key place value }
     {
         let shared = &self.table.shared;
-        let at = place as usize;
+        let at = SPACE * place as usize;
         let word = 2 * value.items();
-        let empty = shared.exchange(&mut seat.seat, at, Some(value));
+        let empty = exchange(shared, &mut seat.seat, place as usize, Some(value));
         let None = empty else { unreachable!() };
         shared.store::<Leave>(&mut seat.seat, at, word);
-        shared.wake_one(at);
+        self.wake(place);
     }
 
     /// Tells one seat what another has seen: of each place it has then seen the longer of what both had.
@@ -235,7 +275,7 @@ impl<T: StandsFor> Gate<T> {
     {
         self.table
             .shared
-            .load::<Look>(&mut seat.seat, place as usize)
+            .load::<Look>(&mut seat.seat, SPACE * place as usize)
             / 2
     }
 

@@ -1,4 +1,5 @@
 //! A seat at the gate.
+use crate::apart::Apart;
 use crate::stands_for::StandsFor;
 use crate::view::View;
 use std::marker::Model;
@@ -9,7 +10,7 @@ use std::marker::Model;
 #[derive(Drop)]
 pub struct Seat<T: StandsFor> {
     pub(crate) number: u32,
-    pub(crate) seat: atomic_table::Seat<Option<T>, View<T::Key, T::Item>>,
+    pub(crate) seat: atomic_table::Seat<Apart<Option<T>>, View<T::Key, T::Item>>,
 }
 
 impl<T: StandsFor> Model for Seat<T> {
@@ -20,7 +21,7 @@ impl<T: StandsFor> Model for Seat<T> {
 
     ghost view = { λ s. record { table = s.seat.table_id; key = s.seat.me.0.key; number = s.number; seen = first_seen s.seat.me.0.identities; turns = s.seat.me.0.turns; entered = s.seat.me.0.entered } };
 
-    ghost invariant = { λ s. (key : T.Key) × IsSeated key s.number s.seat.table_id.words s.seat.me };
+    ghost invariant = { λ s. (key : T.Key) × IsSeated key s.number s.seat.table_id.slots s.seat.me };
 }
 
 impl<T: StandsFor> Seat<T> {

@@ -3,31 +3,40 @@ ghost use Rattle.std.specs.Prelude.{◌≡◌, ℕ, ◌≤◌, ◌<◌, ◌*◌,
 ghost use Rattle.std.specs.Slots.{slots_items, slots_len, IsFull};
 ghost use mathlib.Core.Option.{some};
 ghost use lib.ListN.{get_elem?};
+ghost use Rattle.cp_gate.specs.Words.{word_of};
 
 use crate::OutOfMemory;
+use crate::apart::Apart;
 use crate::stands_for::StandsFor;
 use atomic_table::Closed;
 use std::alloc::Global;
 use std::snapshot::Snapshot;
 
-// The first words: twice the number of items of each value.
+/// A place's word is one of so many, and the others are not used.
+pub(crate) const SPACE: usize = 16;
+
+// The first words: twice the number of items of each value, and zeros between them.
 pub(crate) fn words_of<T: StandsFor>(
     alloc: Global,
     _key: &T::Key,
     values: &[T],
 ) -> Result<Vec<u64>, OutOfMemory>
     requires { (p : ℕ) (x : T) → get_elem? values.now p ≡ some x → T.fits _key.now p x × (length (T.history _key.now p x) < 2 ^ 62) }
-    ensures { IfOk result (λ w. (length w.items ≡ length values.now) × ((p : ℕ) (x : T) → get_elem? values.now p ≡ some x → slice_index w.items p ≡ 2 * length (T.history _key.now p x))) }
+    ensures { IfOk result (λ w. (length w.items ≡ word_of (length values.now)) × ((p : ℕ) (x : T) → get_elem? values.now p ≡ some x → slice_index w.items (word_of p) ≡ 2 * length (T.history _key.now p x))) }
 {
-    let mut words = Vec::with_capacity(alloc, values.len())?;
+    let mut words = Vec::new(alloc);
     for value in values {
-        words.push_reserved(2 * value.items());
+        words.push(2 * value.items())?;
+        words.extend_from_slice(&[0; SPACE - 1])?;
     }
     Ok(words)
 }
 
 // The values, each in a slot. The list is empty afterwards, and keeps its room.
-pub(crate) fn stow<T>(values: Vec<T>, slots: Vec<Option<T>>) -> (Vec<Option<T>>, Vec<T>)
+pub(crate) fn stow<T>(
+    values: Vec<T>,
+    slots: Vec<Apart<Option<T>>>,
+) -> (Vec<Apart<Option<T>>>, Vec<T>)
     requires room { (slots.items ≡ []) × (length values.items ≤ vec_capacity slots) }
     ensures slots { result.0.items ≡ map (λ x. Some x) values.items }
     ensures room { (result.1.items ≡ []) × (vec_capacity result.1 ≡ vec_capacity values) }
@@ -36,13 +45,17 @@ pub(crate) fn stow<T>(values: Vec<T>, slots: Vec<Option<T>>) -> (Vec<Option<T>>,
     let mut slots = slots;
     values.as_mut_slice().reverse();
     while let Some(value) = values.pop() {
-        slots.push_reserved(Some(value));
+        slots.push_reserved(Apart::of(Some(value)));
     }
     (slots, values)
 }
 
 // The values out of their slots again.
-pub(crate) fn unstow<T>(slots: Vec<Option<T>>, room: Vec<T>, _values: Snapshot<Vec<T>>) -> Vec<T>
+pub(crate) fn unstow<T>(
+    slots: Vec<Apart<Option<T>>>,
+    room: Vec<T>,
+    _values: Snapshot<Vec<T>>,
+) -> Vec<T>
     requires slots { slots.items ≡ map (λ x. Some x) _values.value.items }
     requires room { (room.items ≡ []) × (length _values.value.items ≤ vec_capacity room) }
     ensures { result.items ≡ _values.value.items }
@@ -50,7 +63,7 @@ pub(crate) fn unstow<T>(slots: Vec<Option<T>>, room: Vec<T>, _values: Snapshot<V
     let mut slots = slots;
     let mut room = room;
     while let Some(slot) = slots.pop() {
-        room.push_reserved(slot.unwrap());
+        room.push_reserved(slot.into_held().unwrap());
     }
     slots.destroy_empty();
     room.as_mut_slice().reverse();
@@ -58,7 +71,7 @@ pub(crate) fn unstow<T>(slots: Vec<Option<T>>, room: Vec<T>, _values: Snapshot<V
 }
 
 // The values of a closed table, in the room.
-pub(crate) fn unload<T>(closed: Closed<Option<T>, Global>, room: Vec<T>) -> Vec<T>
+pub(crate) fn unload<T>(closed: Closed<Apart<Option<T>>, Global>, room: Vec<T>) -> Vec<T>
     requires full { IsFull closed.slots }
     requires values { (p : ℕ) → p < slots_len closed.slots → (x : T) × (get_elem? (slots_items closed.slots) p ≡ some (Some x)) }
     requires room { (room.items ≡ []) × (slots_len closed.slots ≤ vec_capacity room) }
@@ -68,7 +81,7 @@ pub(crate) fn unload<T>(closed: Closed<Option<T>, Global>, room: Vec<T>) -> Vec<
     let mut closed = closed;
     let mut room = room;
     for i in 0..closed.slot_count() {
-        let value = closed.take(i).unwrap();
+        let value = closed.take(i).into_held().unwrap();
         room.push_reserved(value);
     }
     closed.free();

@@ -97,14 +97,15 @@ fn stay<R: Wait>(
     is_first && seen && done.is_ok()
 }
 
-// One seat stays at place 0 until the other has been at place 1.
+// One seat stays at place 0 until the other has been at its place, which may be the same.
 fn race<R: Threads + Wait + Sync>(
     rt: &R,
     gate: &Gate<Visits>,
     one: Seat<Visits>,
     other: Seat<Visits>,
+    place: u32,
 ) -> ((Seat<Visits>, bool), (Seat<Visits>, bool))
-    requires { (1 < places gate.now) × IsSeatOf gate.now one × IsSeatOf gate.now other × (one.entered ≡ None) × (other.entered ≡ None) }
+    requires { (0 < places gate.now) × (place < places gate.now) × IsSeatOf gate.now one × IsSeatOf gate.now other × (one.entered ≡ None) × (other.entered ≡ None) }
     ensures { IsSeatOf gate.now result.0.0 × IsSeatOf gate.now result.1.0 × (result.0.0.entered ≡ None) × (result.1.0.entered ≡ None) }
 {
     let left = AtomicU64::new(0);
@@ -114,7 +115,7 @@ fn race<R: Threads + Wait + Sync>(
     join(
         rt,
         move ||
-            requires { IsSeatOf gate.now one × (one.entered ≡ None) × (1 < places gate.now) }
+            requires { IsSeatOf gate.now one × (one.entered ≡ None) × (0 < places gate.now) }
             ensures { IsSeatOf gate.entry.now result.0 × (result.0.entered ≡ None) }
         {
             let mut one = one;
@@ -122,11 +123,11 @@ fn race<R: Threads + Wait + Sync>(
             (one, seen)
         },
         move ||
-            requires { IsSeatOf gate.now other × (other.entered ≡ None) × (1 < places gate.now) }
+            requires { IsSeatOf gate.now other × (other.entered ≡ None) × (place < places gate.now) }
             ensures { IsSeatOf gate.entry.now result.0 × (result.0.entered ≡ None) }
         {
             let mut other = other;
-            let seen = stay(rt, gate, &mut other, 1, now);
+            let seen = stay(rt, gate, &mut other, place, now);
             left.store(1, Ordering::SeqCst);
             (other, seen)
         },
@@ -150,7 +151,7 @@ fn places_go_side_by_side(rt: HostRuntime) -> Result<(), Fail> {
     let other = seats.pop().unwrap();
     let one = seats.pop().unwrap();
     assert_eq!(rt; (one.number(), other.number()), (0, 1));
-    let ((mut one, came), (mut other, went)) = race(&rt, &gate, one, other);
+    let ((mut one, came), (mut other, went)) = race(&rt, &gate, one, other, 1);
     assert_eq!(rt; (came, went), (true, true));
     assert_eq!(rt; gate.look(&mut one, 1), 1);
     gate.tell(&mut one, &mut other);
@@ -159,5 +160,22 @@ fn places_go_side_by_side(rt: HostRuntime) -> Result<(), Fail> {
     let visits = gate.close(seats, room);
     assert_eq!(rt; visits[0].numbers.as_slice(), [0].as_slice());
     assert_eq!(rt; visits[1].numbers.as_slice(), [1].as_slice());
+    Ok(())
+}
+
+// While one seat is at a place, another waits for it, and is woken.
+#[test]
+fn a_seat_waits_for_its_place(rt: HostRuntime) -> Result<(), Fail> {
+    let mut values = Vec::new(rt.alloc());
+    values.push(Visits {
+        numbers: Vec::new(rt.alloc()),
+    })?;
+    let Ok((gate, mut seats)) = Gate::new(rt.alloc(), (), values, 2) else {
+        return Err(OutOfMemory.into());
+    };
+    let other = seats.pop().unwrap();
+    let one = seats.pop().unwrap();
+    let ((mut one, _came), (_other, _went)) = race(&rt, &gate, one, other, 0);
+    assert_eq!(rt; gate.look(&mut one, 0), 2);
     Ok(())
 }

@@ -1,10 +1,11 @@
-use Rattle.std.proofs.Common.{rules, arith, ap, ◌∙◌}
+use Rattle.std.proofs.Common.{rules, arith, sym, ap, ◌∙◌}
+use mathlib.Core.Option.{some}
 use Rattle.std.proofs.lemmas.Grind.{common_steps}
 use Rattle.cp_gate.proofs.Unloads.{within_list, is_there, one_more}
 use Rattle.cp_gate.proofs.slots.unload.Goals as goal
 
 pub unwrap-value-requires : goal.unwrap-value-requires
-unwrap-value-requires g c = is_there _ _ _ _ _ c.loop-i.invariant.0 (c.requires.values c.loop-i.i (omega arith)) c.take.ensures.value
+unwrap-value-requires g c = is_there _ _ _ _ _ c.loop-i.invariant.0 (c.requires.values c.loop-i.i (omega arith)) (c.take.ensures.value ∙ ap some (sym c.into_held.ensures))
 
 pub loop-i-preserved : goal.loop-i-preserved
 loop-i-preserved g c = let i = c.loop-i.invariant in let t = c.take.ensures.others in (
@@ -15,7 +16,7 @@ loop-i-preserved g c = let i = c.loop-i.invariant in let t = c.take.ensures.othe
   (first_of (search rules, grind (arith, common_steps))),
   (first_of (search rules, grind (arith, common_steps))),
   (first_of (search rules, grind (arith, common_steps))),
-  one_more _ _ _ _ _ c.loop-i.i c.take.result _ i.5 c.push_reserved.ensures.items c.take.ensures.value c.unwrap-value.ensures t.0 i.7,
+  one_more _ _ _ _ _ c.loop-i.i c.into_held.result _ i.5 c.push_reserved.ensures.items (c.take.ensures.value ∙ ap some (sym c.into_held.ensures)) c.unwrap-value.ensures t.0 i.7,
 )
 
 pub returns-clause-values : goal.returns-clause-values

@@ -3,13 +3,14 @@ use Rattle.std.proofs.lemmas.Grind.{common_steps}
 use Rattle.cp_gate.specs.Models.{starts}
 use Rattle.cp_gate.specs.Models.{IsSeatOf}
 use Rattle.table_views.proofs.Views.{all_seam}
+use Rattle.cp_gate.proofs.Words.{comes, joins}
 use Rattle.cp_gate.proofs.Tokens.{arrives, gathers_free, settles}
 use Rattle.cp_gate.proofs.Ends.{identity_of, closes, closes_move, identities_join, length_identities}
 use Rattle.cp_gate.proofs.Seats.{seat_in}
 use Rattle.cp_gate.proofs.gate.Gate.close.Goals as goal
 
 pub load_new_seat-requires : goal.load_new_seat-requires
-load_new_seat-requires g c = (c.self.invariant.3, arrives g.T.StandsFor.fits g.T.StandsFor.history g.T.StandsFor.names _ _ _ _ _)
+load_new_seat-requires g c = let i = c.self.invariant in (i.3, comes _ _ _ _ (let words = i.1 in let some_word = i.3 in omega (arith, words, some_word)) (arrives g.T.StandsFor.fits g.T.StandsFor.history g.T.StandsFor.names _ _ _ _ _))
 
 pub join_seat-requires : goal.join_seat-requires
 join_seat-requires g c =
@@ -22,7 +23,7 @@ join_seat-requires g c =
       ap (λ s. s.table) c.seat.view_is ∙ (here.0.0 ∙ sym (ap (λ s. s.table) c.self.view_is)),
       ap (λ m. m.1) (seat_in _ _ _ _ _ _ _ _ c.seat.invariant.1 out),
       c.self.invariant.3,
-      gathers_free g.T.StandsFor.fits g.T.StandsFor.history g.T.StandsFor.names _ _ _ _ _ _ _ _ i.2 out,
+      joins _ _ _ _ _ _ _ _ (gathers_free g.T.StandsFor.fits g.T.StandsFor.history g.T.StandsFor.names _ _ _ _ _ _ _ _ i.2 out),
     )
 
 pub loop-seat-preserved : goal.loop-seat-preserved
@@ -47,14 +48,14 @@ unload-requires-clause-values g c p low =
     let identities = i.3 ∙ ap (λ l. map (λ s. identity_of s) l) all in
     let count : length c.args.seats.items ≡ c.self.inside.table.shared.key.seats = c.requires.seats.0 ∙ sym (ap (λ s. s.seats) c.self.view_is) in
     let counts = c.close_with.ensures.counts.1 in let slots = c.self.invariant.2 in
-    let h = settles g.T.StandsFor.fits g.T.StandsFor.history g.T.StandsFor.names _ _ _ _ f.0 f.1.0 _ _ f.1.1 i.2 (ap (λ l. length l) identities ∙ (length_identities c.args.seats.items ∙ count)) p (omega (arith, low, counts, slots)) in
+    let h = settles g.T.StandsFor.fits g.T.StandsFor.history g.T.StandsFor.names _ _ _ _ _ f.1.0.kept _ _ f.1.1 i.2 (ap (λ l. length l) identities ∙ (length_identities c.args.seats.items ∙ count)) p (omega (arith, low, counts, slots)) in
     (h.value, f.4 p _ h.there)
 
 pub unload-requires-clause-room : goal.unload-requires-clause-room
-unload-requires-clause-room g c = let counts = c.close_with.ensures.counts.1 in let slots = c.self.invariant.2 in let words = c.self.invariant.1 in let t = ap (λ s. s.table.words) c.self.view_is in let cap = c.requires.room.1 in (c.requires.room.0, omega (arith, cap, counts, slots, words, t))
+unload-requires-clause-room g c = let counts = c.close_with.ensures.counts.1 in let slots = c.self.invariant.2 in let t = ap (λ s. s.table.slots) c.self.view_is in let cap = c.requires.room.1 in (c.requires.room.0, omega (arith, cap, counts, slots, t))
 
 pub returns-clause-len : goal.returns-clause-len
-returns-clause-len g c = let counts = c.close_with.ensures.counts.1 in let slots = c.self.invariant.2 in let words = c.self.invariant.1 in let t = ap (λ s. s.table.words) c.self.view_is in let l = c.unload.ensures.len in omega (arith, counts, slots, words, t, l)
+returns-clause-len g c = let counts = c.close_with.ensures.counts.1 in let slots = c.self.invariant.2 in let t = ap (λ s. s.table.slots) c.self.view_is in let l = c.unload.ensures.len in omega (arith, counts, slots, t, l)
 
 pub returns-clause-fits : goal.returns-clause-fits
 returns-clause-fits g c p x e =
@@ -64,7 +65,7 @@ returns-clause-fits g c p x e =
     let identities = i.3 ∙ ap (λ l. map (λ s. identity_of s) l) all in
     let count : length c.args.seats.items ≡ c.self.inside.table.shared.key.seats = c.requires.seats.0 ∙ sym (ap (λ s. s.seats) c.self.view_is) in
     let counts = c.close_with.ensures.counts.1 in let slots = c.self.invariant.2 in let len = c.unload.ensures.len in
-    let done = closes g.T.StandsFor.fits g.T.StandsFor.history g.T.StandsFor.names _ _ _ _ f.0 f.1.0 _ _ f.1.1 i.2 c.args.seats.items identities count c.unload.result.items (omega (arith, counts, slots, len)) (λ p y h. c.unload.ensures.values p y (f.4 p _ h)) in
+    let done = closes g.T.StandsFor.fits g.T.StandsFor.history g.T.StandsFor.names _ _ _ _ _ f.1.0.kept _ _ f.1.1 i.2 c.args.seats.items identities count c.unload.result.items (omega (arith, counts, slots, len)) (λ p y h. c.unload.ensures.values p y (f.4 p _ h)) in
     let moved = closes_move g.T.StandsFor.fits g.T.StandsFor.history g.T.StandsFor.names _ c.args.self.key _ c.args.self.seats _ c.args.self.start _ _ (c.self.invariant.0 ∙ ap (λ s. s.key) c.self.view_is) (ap (λ s. s.seats) c.self.view_is)
     ((λ i. starts (g.T.StandsFor.history (c.self.invariant.0 i)) 0 c.self.inside.table.shared.key.values.value.items) ∙ ap (λ s. s.start) c.self.view_is) done in
     moved.fit p x e
@@ -77,7 +78,7 @@ returns-clause-seen g c p x e =
     let identities = i.3 ∙ ap (λ l. map (λ s. identity_of s) l) all in
     let count : length c.args.seats.items ≡ c.self.inside.table.shared.key.seats = c.requires.seats.0 ∙ sym (ap (λ s. s.seats) c.self.view_is) in
     let counts = c.close_with.ensures.counts.1 in let slots = c.self.invariant.2 in let len = c.unload.ensures.len in
-    let done = closes g.T.StandsFor.fits g.T.StandsFor.history g.T.StandsFor.names _ _ _ _ f.0 f.1.0 _ _ f.1.1 i.2 c.args.seats.items identities count c.unload.result.items (omega (arith, counts, slots, len)) (λ p y h. c.unload.ensures.values p y (f.4 p _ h)) in
+    let done = closes g.T.StandsFor.fits g.T.StandsFor.history g.T.StandsFor.names _ _ _ _ _ f.1.0.kept _ _ f.1.1 i.2 c.args.seats.items identities count c.unload.result.items (omega (arith, counts, slots, len)) (λ p y h. c.unload.ensures.values p y (f.4 p _ h)) in
     let moved = closes_move g.T.StandsFor.fits g.T.StandsFor.history g.T.StandsFor.names _ c.args.self.key _ c.args.self.seats _ c.args.self.start _ _ (c.self.invariant.0 ∙ ap (λ s. s.key) c.self.view_is) (ap (λ s. s.seats) c.self.view_is)
     ((λ i. starts (g.T.StandsFor.history (c.self.invariant.0 i)) 0 c.self.inside.table.shared.key.values.value.items) ∙ ap (λ s. s.start) c.self.view_is) done in
     moved.seen p x e
@@ -90,7 +91,7 @@ returns-clause-added g c p x e =
     let identities = i.3 ∙ ap (λ l. map (λ s. identity_of s) l) all in
     let count : length c.args.seats.items ≡ c.self.inside.table.shared.key.seats = c.requires.seats.0 ∙ sym (ap (λ s. s.seats) c.self.view_is) in
     let counts = c.close_with.ensures.counts.1 in let slots = c.self.invariant.2 in let len = c.unload.ensures.len in
-    let done = closes g.T.StandsFor.fits g.T.StandsFor.history g.T.StandsFor.names _ _ _ _ f.0 f.1.0 _ _ f.1.1 i.2 c.args.seats.items identities count c.unload.result.items (omega (arith, counts, slots, len)) (λ p y h. c.unload.ensures.values p y (f.4 p _ h)) in
+    let done = closes g.T.StandsFor.fits g.T.StandsFor.history g.T.StandsFor.names _ _ _ _ _ f.1.0.kept _ _ f.1.1 i.2 c.args.seats.items identities count c.unload.result.items (omega (arith, counts, slots, len)) (λ p y h. c.unload.ensures.values p y (f.4 p _ h)) in
     let moved = closes_move g.T.StandsFor.fits g.T.StandsFor.history g.T.StandsFor.names _ c.args.self.key _ c.args.self.seats _ c.args.self.start _ _ (c.self.invariant.0 ∙ ap (λ s. s.key) c.self.view_is) (ap (λ s. s.seats) c.self.view_is)
     ((λ i. starts (g.T.StandsFor.history (c.self.invariant.0 i)) 0 c.self.inside.table.shared.key.values.value.items) ∙ ap (λ s. s.start) c.self.view_is) done in
     moved.added p x e
@@ -103,7 +104,7 @@ returns-clause-numbers g c k =
     let identities = i.3 ∙ ap (λ l. map (λ s. identity_of s) l) all in
     let count : length c.args.seats.items ≡ c.self.inside.table.shared.key.seats = c.requires.seats.0 ∙ sym (ap (λ s. s.seats) c.self.view_is) in
     let counts = c.close_with.ensures.counts.1 in let slots = c.self.invariant.2 in let len = c.unload.ensures.len in
-    let done = closes g.T.StandsFor.fits g.T.StandsFor.history g.T.StandsFor.names _ _ _ _ f.0 f.1.0 _ _ f.1.1 i.2 c.args.seats.items identities count c.unload.result.items (omega (arith, counts, slots, len)) (λ p y h. c.unload.ensures.values p y (f.4 p _ h)) in
+    let done = closes g.T.StandsFor.fits g.T.StandsFor.history g.T.StandsFor.names _ _ _ _ _ f.1.0.kept _ _ f.1.1 i.2 c.args.seats.items identities count c.unload.result.items (omega (arith, counts, slots, len)) (λ p y h. c.unload.ensures.values p y (f.4 p _ h)) in
     let moved = closes_move g.T.StandsFor.fits g.T.StandsFor.history g.T.StandsFor.names _ c.args.self.key _ c.args.self.seats _ c.args.self.start _ _ (c.self.invariant.0 ∙ ap (λ s. s.key) c.self.view_is) (ap (λ s. s.seats) c.self.view_is)
     ((λ i. starts (g.T.StandsFor.history (c.self.invariant.0 i)) 0 c.self.inside.table.shared.key.values.value.items) ∙ ap (λ s. s.start) c.self.view_is) done in
     moved.numbered k

@@ -3,6 +3,7 @@ use Rattle.std.specs.List.{All, range_with_len}
 use Rattle.std.proofs.lemmas.List.{length-append}
 use Rattle.std.proofs.lemmas.List.Elements.{All-append}
 use Rattle.cp_gate.specs.Models.{IsNewSeatOf}
+use Rattle.cp_gate.proofs.Words.{splits}
 use Rattle.cp_gate.proofs.Ends.{deals}
 use Rattle.cp_gate.proofs.Seats.{kept_as, dealt_none, dealt_one, dealt_rest, dealt_me, length-zeros, map_snoc, range_next}
 use Rattle.table_views.proofs.Views.{all_one}
@@ -16,7 +17,7 @@ split_seat-seat-requires g c = let i = c.loop-number.invariant in let low = c.lo
     let next : c.args.seats - c.loop-number.number ≡ suc (c.args.seats - (c.loop-number.number + 1)) = omega (arith, low) in let is = dealt_one _ _ _ _ _ _ _ _ _ next i.1 in (
       i.0 ∙ sym (ap (λ s. s.table) c.self.view_is),
       c.self.invariant.3,
-      deals g.T.StandsFor.fits g.T.StandsFor.history g.T.StandsFor.names _ _ _ _ _ _ _ _ (ap (λ z. z.0.identities) is) (ap (λ z. z.0.entered) is) (ap (λ z. z.0.notes) is),
+      splits _ _ _ _ _ _ (deals g.T.StandsFor.fits g.T.StandsFor.history g.T.StandsFor.names _ _ _ _ _ _ _ _ (ap (λ z. z.0.identities) is) (ap (λ z. z.0.entered) is) (ap (λ z. z.0.notes) is)),
     )
 
 pub push_reserved-requires : goal.push_reserved-requires
@@ -25,8 +26,8 @@ push_reserved-requires g c = let i = c.loop-number.invariant in let low = c.loop
 pub invariant_of-push_reserved : goal.invariant_of-push_reserved
 invariant_of-push_reserved g c = let i = c.loop-number.invariant in let low = c.loop-number-test.true in
     let next : c.args.seats - c.loop-number.number ≡ suc (c.args.seats - (c.loop-number.number + 1)) = omega (arith, low) in let is = dealt_one _ _ _ _ _ _ _ _ _ next i.1 in
-    let words = ap (λ t. t.words) (c.split_seat-seat.ensures.3 ∙ i.0) in
-    (_, kept_as _ _ _ _ _ _ _ _ _ _ (dealt_me _ _ _ _ _ _ _ _ _ is c.split_seat-seat.ensures.4) (λ p (e : None ≡ Some p). absurd (cc)) (c.requires.first.1 ∙ sym words) (length-zeros _ ∙ (c.requires.first.1 ∙ sym words)))
+    let slots = ap (λ t. t.slots) (c.split_seat-seat.ensures.3 ∙ i.0) in
+    (_, kept_as _ _ _ _ _ _ _ _ _ _ (dealt_me _ _ _ _ _ _ _ _ _ is c.split_seat-seat.ensures.4) (λ p (e : None ≡ Some p). absurd (cc)) (c.requires.first.1 ∙ sym slots) (length-zeros _ ∙ (c.requires.first.1 ∙ sym slots)))
 
 pub loop-number-preserved : goal.loop-number-preserved
 loop-number-preserved g c = let i = c.loop-number.invariant in let low = c.loop-number-test.true in

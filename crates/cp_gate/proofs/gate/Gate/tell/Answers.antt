@@ -1,7 +1,8 @@
 use Rattle.std.proofs.Common.{arith, sym, ap, ◌∙◌}
 use Rattle.cp_gate.specs.Histories.{seen_of}
 use Rattle.cp_gate.specs.Rule.{first_seen}
-use Rattle.cp_gate.proofs.Steps.{reads}
+use Rattle.cp_gate.proofs.Words.{splits, joins}
+use Rattle.cp_gate.proofs.PlaceSteps.{reads_first}
 use Rattle.cp_gate.proofs.Tokens.{notes_as, gathers_as}
 use Rattle.cp_gate.proofs.Histories.{length-longest}
 use Rattle.cp_gate.proofs.Seats.{key_of, key_stays, kept_as, told_is, joined, read_done, adds_move}
@@ -11,7 +12,7 @@ pub split_seat-note-requires : goal.split_seat-note-requires
 split_seat-note-requires g c = let table = ap (λ s. s.table) c.self.view_is in (
   ap (λ s. s.table) c.from.view_is ∙ (c.requires.from.0 ∙ sym table),
   c.self.invariant.3,
-  notes_as g.T.StandsFor.fits g.T.StandsFor.history g.T.StandsFor.names _ _ _ _ _ _ _ _ _ _ _ (ap (λ m. m.0) c.from.invariant.1.0),
+  splits _ _ _ _ _ _ (notes_as g.T.StandsFor.fits g.T.StandsFor.history g.T.StandsFor.names _ _ _ _ _ _ _ _ _ _ _ (ap (λ m. m.0) c.from.invariant.1.0)),
 )
 
 pub join_seat-requires : goal.join_seat-requires
@@ -20,22 +21,22 @@ join_seat-requires g c = let table = ap (λ s. s.table) c.self.view_is in let no
   note.3 ∙ (ap (λ s. s.table) c.from.view_is ∙ (c.requires.from.0 ∙ sym table)),
   ap (λ m. m.1) note.4,
   c.self.invariant.3,
-  gathers_as g.T.StandsFor.fits g.T.StandsFor.history g.T.StandsFor.names _ _ _ _ _ _ _ _ _ _ _ _ _ (ap (λ m. m.0) c.to.invariant.1.0) (ap (λ m. m.0.entered) note.4),
+  joins _ _ _ _ _ _ _ _ (gathers_as g.T.StandsFor.fits g.T.StandsFor.history g.T.StandsFor.names _ _ _ _ _ _ _ _ _ _ _ _ _ (ap (λ m. m.0) c.to.invariant.1.0) (ap (λ m. m.0.entered) note.4)),
 )
 
 pub load-requires : goal.load-requires
-load-requires g c = let table = ap (λ s. s.table) c.self.view_is in let note = c.split_seat-note.ensures in let low = c.self.invariant.3 in (
+load-requires g c = let table = ap (λ s. s.table) c.self.view_is in let note = c.split_seat-note.ensures in let i = c.self.invariant in let low = i.3 in (
   c.join_seat.ensures.0 ∙ (ap (λ s. s.table) c.to.view_is ∙ (c.requires.to.0 ∙ sym table)),
   low,
-  reads g.T.StandsFor.fits g.T.StandsFor.history g.T.StandsFor.names _ _ _ _ _ _ _ _ _ _ _ _ _ _ (joined _ _ _ _ _ _ _ _ _ _ _ _ (ap (λ m. m.0) c.to.invariant.1.0) (ap (λ m. m.0) note.4) c.join_seat.ensures.2),
+  reads_first g.T.StandsFor.fits g.T.StandsFor.history g.T.StandsFor.names _ _ _ _ _ _ _ _ _ _ _ _ _ (let words = i.1 in omega (arith, words, low)) (joined _ _ _ _ _ _ _ _ _ _ _ _ (ap (λ m. m.0) c.to.invariant.1.0) (ap (λ m. m.0) note.4) c.join_seat.ensures.2),
 )
 
 pub invariant_of-to : goal.invariant_of-to
 invariant_of-to g c = let note = c.split_seat-note.ensures in
     let read = (c.load.ensures.2 _ _ _ _ _ _ (joined _ _ _ _ _ _ _ _ _ _ _ _ (ap (λ m. m.0) c.to.invariant.1.0) (ap (λ m. m.0) note.4) c.join_seat.ensures.2)).0 in
-    let words = ap (λ t. t.words) c.load.ensures.0 ∙ ap (λ t. t.words) c.join_seat.ensures.0 in
+    let slots = ap (λ t. t.slots) c.load.ensures.0 ∙ ap (λ t. t.slots) c.join_seat.ensures.0 in
     let carried = ap (λ m. m.1) c.join_seat.ensures.2 ∙ ap (λ m. m.1) c.to.invariant.1.0 in
-    (c.to.invariant.0, kept_as _ _ _ _ _ _ _ _ _ _ (read_done _ _ _ _ _ _ _ _ _ _ read carried) (λ p e. let low = c.to.invariant.1.1 p e in omega (arith, words, low)) (length-longest _ _ ∙ (c.to.invariant.1.2 ∙ sym words)) (c.to.invariant.1.3 ∙ sym words))
+    (c.to.invariant.0, kept_as _ _ _ _ _ _ _ _ _ _ (read_done _ _ _ _ _ _ _ _ _ _ read carried) (λ p e. let low = c.to.invariant.1.1 p e in omega (arith, slots, low)) (length-longest _ _ ∙ (c.to.invariant.1.2 ∙ sym slots)) (c.to.invariant.1.3 ∙ sym slots))
 
 pub returns-clause-to : goal.returns-clause-to
 returns-clause-to g c = let note = c.split_seat-note.ensures in
@@ -45,17 +46,17 @@ returns-clause-to g c = let note = c.split_seat-note.ensures in
 pub returns-clause-own : goal.returns-clause-own
 returns-clause-own g c p low = let note = c.split_seat-note.ensures in
     let read = c.load.ensures.2 _ _ _ _ _ _ (joined _ _ _ _ _ _ _ _ _ _ _ _ (ap (λ m. m.0) c.to.invariant.1.0) (ap (λ m. m.0) note.4) c.join_seat.ensures.2) in
-    let words = ap (λ s. s.table.words) c.to.view_is ∙ ap (λ t. t.words) c.requires.to.0 in let sized = c.to.invariant.1.2 in
+    let slots = ap (λ s. s.table.slots) c.to.view_is ∙ ap (λ t. t.slots) c.requires.to.0 in let sized = c.to.invariant.1.2 in
     let key = key_of _ _ _ _ _ _ _ _ _ c.to.invariant.1 (ap (λ s. s.key) c.to.view_is) c.requires.to.1 in
-    let both = read.1 p (omega (arith, words, sized, low)) in
+    let both = read.1 p (omega (arith, slots, sized, low)) in
     let now = ap (λ m. seen_of (first_seen m.0.identities) p) read.0 in
     (adds_move g.T.StandsFor.names _ _ _ _ _ _ _ _ _ _ key (ap (λ s. s.number) c.to.view_is) (ap (λ s. seen_of s.seen p) c.to.view_is) (sym now) (ap (λ s. seen_of s.seen p) c.from.view_is) both.0 both.1).0
 
 pub returns-clause-told : goal.returns-clause-told
 returns-clause-told g c p low = let note = c.split_seat-note.ensures in
     let read = c.load.ensures.2 _ _ _ _ _ _ (joined _ _ _ _ _ _ _ _ _ _ _ _ (ap (λ m. m.0) c.to.invariant.1.0) (ap (λ m. m.0) note.4) c.join_seat.ensures.2) in
-    let words = ap (λ s. s.table.words) c.to.view_is ∙ ap (λ t. t.words) c.requires.to.0 in let sized = c.to.invariant.1.2 in
+    let slots = ap (λ s. s.table.slots) c.to.view_is ∙ ap (λ t. t.slots) c.requires.to.0 in let sized = c.to.invariant.1.2 in
     let key = key_of _ _ _ _ _ _ _ _ _ c.to.invariant.1 (ap (λ s. s.key) c.to.view_is) c.requires.to.1 in
-    let both = read.1 p (omega (arith, words, sized, low)) in
+    let both = read.1 p (omega (arith, slots, sized, low)) in
     let now = ap (λ m. seen_of (first_seen m.0.identities) p) read.0 in
     (adds_move g.T.StandsFor.names _ _ _ _ _ _ _ _ _ _ key (ap (λ s. s.number) c.to.view_is) (ap (λ s. seen_of s.seen p) c.to.view_is) (sym now) (ap (λ s. seen_of s.seen p) c.from.view_is) both.0 both.1).1
