@@ -1,6 +1,7 @@
 //! Tips: how each block stands at an epoch's end, and the tables that a store signs of them.
 #![tactic(auto)]
 
+mod blocks;
 pub mod laws;
 mod regress;
 mod rows;

@@ -1,0 +1,39 @@
+-- The kinds of guilt, one after another.
+use Rattle.std.proofs.Common.{◌≡◌, ℕ, List, [], ◌∷◌, ◌++◌, Option, Some, None, Result, refl, sym, ap, subst, ◌∙◌}
+use Rattle.std.specs.Global.{Vec}
+use Rattle.cp_statements.specs.Envelope.{Envelope}
+use Rattle.cp_chain.specs.Rules.{first_of, or_else}
+use Rattle.cp_evidence.specs.Evidence.{Evidence}
+use Rattle.cp_evidence.specs.Material.{GivenEpoch}
+use Rattle.cp_evidence.specs.Verdict.{guilt_by_kind}
+use Rattle.cp_audit.specs.Rows.{Writes}
+use Rattle.cp_audit.proofs.RowLemmas.{WritesOut}
+use Rattle.cp_audit.specs.Verdicts.{by_one, by_two, by_tables, by_log}
+
+-- ---- one kind before the others
+
+pub here : (row rest : Option Evidence) (out : Vec ℕ) → WritesOut row out → WritesOut (or_else row rest) out
+here row rest out w = (w.0, ap (λ (r : Option Evidence). or_else r rest) w.1, w.2, w.3)
+
+pub there : {E : Type 0} (row rest : Option Evidence) (r : Result (Option (Vec ℕ)) E) → row ≡ None → Writes rest r → Writes (or_else row rest) r
+there row rest r none w = rw none w
+
+pub last : {E : Type 0} (row : Option Evidence) (r : Result (Option (Vec ℕ)) E) → Writes row r → Writes (or_else row None) r
+last row r w = subst (λ (o : Option Evidence). Writes o r) (sym (same row)) w
+  where
+    same : (o : Option Evidence) → or_else o None ≡ o
+    same None = refl
+    same (Some e) = refl
+
+-- ---- groups of kinds
+
+first_append : (xs ys : List (Option Evidence)) → first_of (xs ++ ys) ≡ or_else (first_of xs) (first_of ys)
+first_append [] ys = refl
+first_append (None ∷ xs) ys = first_append xs ys
+first_append (Some e ∷ xs) ys = refl
+
+pub grouped : (o : GivenEpoch) (xs : List Envelope) → first_of (guilt_by_kind o xs) ≡ or_else (first_of (by_one o xs)) (or_else (first_of (by_two o xs)) (or_else (first_of (by_tables o)) (first_of (by_log o xs))))
+grouped o xs =
+    let three : first_of (by_tables o ++ by_log o xs) ≡ or_else (first_of (by_tables o)) (first_of (by_log o xs)) = first_append (by_tables o) (by_log o xs) in
+    let two : first_of (by_two o xs ++ (by_tables o ++ by_log o xs)) ≡ or_else (first_of (by_two o xs)) (or_else (first_of (by_tables o)) (first_of (by_log o xs))) = first_append (by_two o xs) (by_tables o ++ by_log o xs) ∙ ap (or_else (first_of (by_two o xs))) three in
+    first_append (by_one o xs) (by_two o xs ++ (by_tables o ++ by_log o xs)) ∙ ap (or_else (first_of (by_one o xs))) two

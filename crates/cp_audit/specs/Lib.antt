@@ -1,0 +1,11 @@
+pub mod View
+pub mod Heads
+pub mod Parts
+pub mod HandIns
+pub mod Faults
+pub mod Given
+pub mod Rows
+pub mod LogParts
+pub mod Counts
+pub mod Verdicts
+pub mod Firsts

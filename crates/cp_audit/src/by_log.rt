@@ -1,0 +1,67 @@
+//! Guilt that the log shows.
+ghost use Rattle.std.specs.Prelude.{◌≡◌, map, IfOk};
+ghost use Rattle.std.specs.List.{AllByRecursion};
+ghost use Rattle.cp_chain.specs.Rules.{first_of};
+ghost use Rattle.cp_chain.specs.View.{fault_view, frame_view};
+ghost use Rattle.cp_evidence.specs.Evidence.{evidence_text};
+ghost use Rattle.cp_evidence.specs.AuditLaws.{LongPartsFit};
+ghost use Rattle.cp_evidence.specs.Material.{frame_for};
+ghost use Rattle.cp_evidence.specs.Verdict.{fault_in};
+ghost use Rattle.cp_audit.specs.Given.{given_view};
+ghost use Rattle.cp_audit.specs.Parts.{part_view};
+ghost use Rattle.cp_audit.specs.Rows.{Writes, broken_rule};
+
+use crate::by_tables::fits;
+use crate::given::GivenEpoch;
+use crate::part::Part;
+use cp_bytes::OutOfMemory;
+use cp_chain::{Fault, first_fault};
+use cp_evidence::write_k7;
+use std::alloc::{AllocError, Global};
+
+// The least block whose segment breaks a rule, with its first fault.
+pub(crate) fn illegal(
+    alloc: Global,
+    o: &GivenEpoch,
+    parts: &[Part],
+) -> Result<Option<Vec<u8>>, OutOfMemory>
+    requires { AllByRecursion (λ p. frame_view p.frame ≡ frame_for (given_view o.now) p.frame.block) parts.now }
+    ensures { Writes (first_of (map (fault_in (given_view o.now)) (map part_view parts.now))) result }
+{
+    for part in parts {
+        if let Some(fault) = first_fault(&part.frame, &part.segment) {
+            let written = write_fault(alloc, o, part, fault)?;
+            return Ok(Some(written));
+        }
+    }
+    Ok(None)
+}
+
+// The evidence of a fault in a segment.
+fn write_fault(
+    alloc: Global,
+    o: &GivenEpoch,
+    part: &Part,
+    fault: Fault,
+) -> Result<Vec<u8>, OutOfMemory>
+    ensures { IfOk result (λ out. (out.items ≡ evidence_text (broken_rule (given_view o.now) (part_view part.now) (fault_view fault))) × LongPartsFit (broken_rule (given_view o.now) (part_view part.now) (fault_view fault))) }
+{
+    if !fits(o.table_before) || !fits(o.table) || !fits(o.families_text) {
+        return Err(AllocError);
+    }
+    let mut out = Vec::new(alloc);
+    write_k7(
+        part.frame.block,
+        u64::from(fault.rule.number()),
+        fault.place,
+        fault.other,
+        &o.closing.envelope,
+        &o.before.envelope(),
+        o.table,
+        o.table_before,
+        o.families_text,
+        part.bytes,
+        &mut out,
+    )?;
+    Ok(out)
+}

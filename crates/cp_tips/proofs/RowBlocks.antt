@@ -1,0 +1,14 @@
+-- The block of a row where it lies.
+use Rattle.std.proofs.Common.{◌≡◌, ℕ, ◌<◌, List, [], length, get_or, refl, sym, ap, subst, ◌∙◌}
+use Rattle.std.specs.Prelude.{map}
+use Rattle.std.proofs.lemmas.List.{get_or-map, length-map}
+use Rattle.cp_tips.specs.Table.{TableRow}
+use Rattle.cp_tips.specs.Rows.{row_of}
+
+pub block_is : (pieces : List (List ℕ)) (rows : List TableRow) (i : ℕ) (d : List ℕ) → map row_of pieces ≡ rows → i < length rows → (row_of (get_or pieces i d)).block ≡ get_or (map (λ r. r.block) rows) i 0
+block_is pieces rows i d e lt =
+    let long : i < length (map row_of pieces) = subst (λ (l : List TableRow). i < length l) (sym e) lt in
+    let short : i < length pieces = subst (λ (n : ℕ). i < n) (length-map pieces row_of) long in
+    let inner : get_or (map row_of pieces) i (row_of d) ≡ row_of (get_or pieces i d) = get_or-map row_of pieces i d (row_of d) short in
+    let outer : get_or (map (λ r. r.block) (map row_of pieces)) i 0 ≡ (get_or (map row_of pieces) i (row_of d)).block = get_or-map (λ (r : TableRow). r.block) (map row_of pieces) i (row_of d) 0 long in
+    sym (ap (λ (r : TableRow). r.block) inner) ∙ sym outer ∙ ap (λ (l : List TableRow). get_or (map (λ r. r.block) l) i 0) e
