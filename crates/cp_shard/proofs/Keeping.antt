@@ -9,10 +9,12 @@ use Rattle.cp_statements.specs.Attestation.{Attestation}
 use Rattle.cp_statements.specs.Entry.{Entry, entry_of, entry_text}
 use Rattle.cp_statements.specs.View.{attestation_view}
 use Rattle.cp_tips.specs.Tip.{Tip, fresh}
+use Rattle.cp_tips.specs.View.{tip_view}
 use Rattle.cp_chain.specs.Legal.{put_at, put_by, latest}
 use Rattle.cp_chain.proofs.Each.{each_nil, each_push}
 use Rattle.cp_core.specs.Life.{RowItem, row_item, rows_of, in_epoch, freezes, tip_after}
 use Rattle.cp_core.specs.Calls.{epoch_now, head_of, attested, latest_of}
+use Rattle.cp_core.specs.Frozen.{tip_from}
 use Rattle.cp_core.specs.Honest.{IsItemOf, IsRowOf, SpellsEntry}
 use Rattle.cp_core.specs.declared.item.Item.{Item}
 use Rattle.cp_core.specs.declared.item.Item.TheVariants.{Row, Frozen}
@@ -22,10 +24,12 @@ use Rattle.cp_pages.specs.Extent.{Extent}
 use Rattle.cp_pages.specs.Pages.{Pages, pages_for, bytes_of, taken_pages}
 use Rattle.cp_shard.specs.declared.key.Key.{Key}
 use Rattle.cp_shard.specs.declared.call.Call.{Call}
+use Rattle.cp_shard.specs.declared.row_tip.RowTip.{RowTip}
 use Rattle.cp_shard.specs.declared.standing.Standing.{Standing}
 use Rattle.cp_shard.specs.Booked.{tip_by, key_by}
 use Rattle.cp_shard.specs.Contents.{HasContents}
 use Rattle.cp_shard.specs.Kept.{tip_of, Keeps, IsNext, key_of}
+use Rattle.cp_shard.specs.Gathered.{block_in, row_block, row_tip}
 use Rattle.cp_shard.specs.Places.{key_cmp, found_at, IsPlace}
 use Rattle.cp_shard.specs.Standings.{tip_or, run_or, tip_at, run_at, content_in}
 use Rattle.cp_shard.proofs.Grows.{places_row, found_frozen, tip_row, tip_frozen}
@@ -132,6 +136,17 @@ module _ (store : List ℕ) (index pages closings epoch room : ℕ) (items : Lis
   kind_is : (store prev : List ℕ) (e : Entry) (a : Attestation) → a ≡ attested store prev e → (a.kind ≡ e.kind) × (a.version ≡ e.version) × (a.content ≡ e.content)
   unfolding attested
   kind_is store prev e a same = (ap (λ (a : Attestation). a.kind) same, ap (λ (a : Attestation). a.version) same, ap (λ (a : Attestation). a.content) same)
+
+  -- what is kept of the row
+  pub tip_kept : (t : RowTip) → t.block ≡ a.block → tip_view t.tip ≡ tip_by a → t ≡ row_tip items r
+  tip_kept t block tip =
+      let b : ℕ = next.entry.block in
+      let at : a.block ≡ b = (key_same store (head_of items b) next.entry a next.attestation).1 in
+      let read : row_block r ≡ b = ap block_in reads in
+      let after : tip_of (items ++ row_item r ∷ []) b ≡ tip_by a =
+      tip_row store items r next.entry a b next.spells.spelled reads next.spells.fits next.position next.attestation next.get ∙ ap (λ u. cond u (tip_by a) (tip_of items b)) (eq-eqb b b refl) in
+      let now : t.tip ≡ tip_from (tip_of (items ++ row_item r ∷ []) (row_block r)) = ap tip_from (tip ∙ sym after) ∙ ap (λ c. tip_from (tip_of (items ++ row_item r ∷ []) c)) (sym read) in
+      ap (λ n. (let x : RowTip = record { block = n; tip = t.tip } in x)) (block ∙ at ∙ sym read) ∙ ap (λ y. (let x : RowTip = record { block = row_block r; tip = y } in x)) now
 
   -- a get's
   pub get_contents : (now : BTreeMap ℕ Standing) → a.kind ≡ 2 → ((b : ℕ) → run_at now b ≡ run_at standings b) → HasContents (items ++ row_item r ∷ []) pages (run_at now) pool

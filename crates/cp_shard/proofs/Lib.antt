@@ -10,3 +10,6 @@ pub mod NextRow
 pub mod StepLaws
 pub mod Lookups
 pub mod Whole
+pub mod Ascending
+pub mod EpochRows
+pub mod Spans

@@ -9,3 +9,4 @@ pub mod Refusals
 pub mod Released
 pub mod Steps
 pub mod Laws
+pub mod Gathered

@@ -12,6 +12,7 @@ use crate::booking::{key_by, pages_of, tip_by};
 use crate::call::Call;
 use crate::drawing::{draw, place_and_draw};
 use crate::room::{make_room, release};
+use crate::row_tip::RowTip;
 use crate::shard::Shard;
 use crate::standing::{set_run, set_tip};
 use cp_bytes::Bytes;
@@ -43,6 +44,7 @@ impl Shard {
         let Ok(()) = make_room(
             &mut self.items,
             freezes_left as usize + 1,
+            &mut self.row_tips,
             &mut self.calls,
             &mut self.standings,
             block,
@@ -55,7 +57,8 @@ impl Shard {
             Ok(leaf) => leaf,
             Err(refusal) => return Err(refusal),
         };
-        set_tip(&mut self.standings, block, tip_by(&attestation));
+        let tip = tip_by(&attestation);
+        set_tip(&mut self.standings, block, tip);
         self.calls.push_reserved(Call { leaf, attestation });
         self.items.push_reserved(Item::Row {
             pass,
@@ -63,6 +66,7 @@ impl Shard {
             pages: 0,
             entry: text,
         });
+        self.row_tips.push_reserved(RowTip { block, tip });
         Ok(leaf)
     }
 
@@ -101,27 +105,27 @@ impl Shard {
         let Ok(()) = make_room(
             &mut self.items,
             freezes_left as usize + 1,
+            &mut self.row_tips,
             &mut self.calls,
             &mut self.standings,
             block,
         ) else {
             return Err(CallRefusal::OutOfMemory);
         };
-        let place = self.calls.len();
-        let key = key_by(&attestation);
         let (leaf, run) = match place_and_draw(
             &mut self.pool,
             content,
             &mut self.places,
-            key,
-            place,
+            key_by(&attestation),
+            self.calls.len(),
             leaves,
             limit,
         ) {
             Ok(drawn) => drawn,
             Err(refusal) => return Err(refusal),
         };
-        set_tip(&mut self.standings, block, tip_by(&attestation));
+        let tip = tip_by(&attestation);
+        set_tip(&mut self.standings, block, tip);
         let old = set_run(&mut self.standings, block, run);
         self.calls.push_reserved(Call { leaf, attestation });
         self.items.push_reserved(Item::Row {
@@ -130,6 +134,7 @@ impl Shard {
             pages: pages_of(content),
             entry: text,
         });
+        self.row_tips.push_reserved(RowTip { block, tip });
         release(&mut self.pool, old);
         Ok(leaf)
     }

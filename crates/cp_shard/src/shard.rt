@@ -1,13 +1,16 @@
 //! A shard of a store.
-ghost use Rattle.std.specs.Prelude.{ℕ, ◌≡◌, ◌≤◌, ◌<◌, ◌^◌, [], ◌∷◌, ◌++◌, length, IfOk};
+ghost use Rattle.std.specs.Prelude.{ℕ, ◌≡◌, ◌≤◌, ◌<◌, ◌^◌, [], ◌∷◌, ◌++◌, length, get_or, IfOk};
 ghost use Rattle.cp_core.specs.Calls.{epoch_now};
+ghost use Rattle.cp_core.specs.Frozen.{frozen_part, part_view};
 ghost use Rattle.cp_core.specs.declared.item.Item.TheVariants.{Frozen};
 
 use crate::call::Call;
+use crate::gathering::gather;
 use crate::key::Key;
+use crate::row_tip::RowTip;
 use crate::standing::Standing;
 use cp_bytes::OutOfMemory;
-use cp_core::{Item, Items};
+use cp_core::{FrozenPart, Item, Items};
 use cp_pages::Pool;
 use std::alloc::Global;
 use std::collections::BTreeMap;
@@ -30,6 +33,10 @@ pub struct Shard {
     pub(crate) epoch: u64,
     /// The items, oldest first, with room for the freezes to come.
     pub(crate) items: Vec<Item>,
+    /// The block of each row among them, and its tip after the row.
+    pub(crate) row_tips: Vec<RowTip>,
+    /// The number of the rows before each freeze, with room for the freezes to come.
+    pub(crate) row_counts: Vec<usize>,
     /// This epoch's calls, oldest first.
     pub(crate) calls: Vec<Call>,
     /// Where each of them stands among them.
@@ -49,10 +56,11 @@ impl Model for Shard {
     ghost use Rattle.cp_shard.specs.Contents.{contents_of, put_blocks};
     ghost use Rattle.cp_shard.specs.Standings.{run_at, content_in};
     ghost use Rattle.cp_shard.specs.Kept.{Keeps};
+    ghost use Rattle.cp_shard.specs.Gathered.{KeepsRows};
 
     ghost view = { λ s. record { store = s.store; index = s.index; pages = s.pages; closings = s.closings; items = s.items.items; contents = contents_of (put_blocks s.items.items) (λ b. content_in s.pool (run_at s.standings b)) } };
 
-    ghost invariant = { λ s. Keeps s.store s.index s.pages s.closings s.epoch (vec_capacity s.items) s.items.items s.calls.items s.standings s.places s.pool };
+    ghost invariant = { λ s. Keeps s.store s.index s.pages s.closings s.epoch (vec_capacity s.items) s.items.items s.calls.items s.standings s.places s.pool × KeepsRows s.items.items s.row_tips.items s.row_counts.items s.closings (vec_capacity s.row_counts) };
 }
 
 impl Shard {
@@ -68,6 +76,7 @@ impl Shard {
         ensures { IfOk result (λ s. s ≡ record { store = store; index = index; pages = pages; closings = closings; items = []; contents = [] }) }
     {
         let items = Vec::with_capacity(alloc, closings as usize)?;
+        let row_counts = Vec::with_capacity(alloc, closings as usize)?;
         let pool = Pool::new(alloc, pages)?;
         Ok(Shard {
             store,
@@ -76,6 +85,8 @@ impl Shard {
             closings,
             epoch: 1,
             items,
+            row_tips: Vec::new(alloc),
+            row_counts,
             calls: Vec::new(alloc),
             places: BTreeMap::new(alloc),
             standings: BTreeMap::new(alloc),
@@ -110,8 +121,39 @@ impl Shard {
         ensures { self.new ≡ record self.old { items = self.old.items ++ Frozen (epoch_now self.old.items) ∷ [] } }
     {
         self.items.push_reserved(Item::Frozen(self.epoch));
+        self.row_counts.push_reserved(self.row_tips.len());
         self.places.clear();
         self.calls.clear();
         self.epoch += 1;
+    }
+
+    /// A copy of the entries of an epoch that has ended, with the tips of their blocks at its end. No
+    /// item of another epoch is looked at.
+    pub fn frozen(&self, alloc: Global, epoch: u64) -> Result<FrozenPart, OutOfMemory>
+        requires { epoch < epoch_now self.now.items }
+        ensures { IfOk result (λ part. part_view part ≡ frozen_part self.now.index self.now.items epoch) }
+    {
+        let before = epoch.saturating_sub(1);
+        let start = rows_through(&self.row_counts, before);
+        let end = rows_through(&self.row_counts, epoch);
+        let freezes = before as usize;
+        let blocks = gather(alloc, &self.items, &self.row_tips, start, end, freezes)?;
+        Ok(FrozenPart {
+            shard: self.index,
+            epoch,
+            blocks,
+        })
+    }
+}
+
+/// The number of the rows up to the end of an epoch that has ended; none came before the first one.
+fn rows_through(row_counts: &[usize], epoch: u64) -> usize
+    requires { epoch ≤ length row_counts.now }
+    ensures { result ≡ get_or (0 ∷ row_counts.now) epoch 0 }
+{
+    if epoch == 0 {
+        0
+    } else {
+        row_counts[(epoch - 1) as usize]
     }
 }

@@ -15,20 +15,20 @@ use Rattle.cp_shard.proofs.shard.Shard.early_get.Goals as goal
 pub returns-then-request-self : goal.returns-then-request-self
 returns-then-request-self c =
     let v = c.args.self.now in let r = c.args.request.now in
-    let now : c.self.inside.epoch ≡ epoch_now v.items = c.self.invariant.epoch_is ∙ ap (λ (v : ShardModel). epoch_now v.items) c.self.view_is in
+    let now : c.self.inside.epoch ≡ epoch_now v.items = c.self.invariant.0.epoch_is ∙ ap (λ (v : ShardModel). epoch_now v.items) c.self.view_is in
     early_epoch v.store v.items v.contents (ask.Get r) (λ e. c.if-request-self.true (e ∙ sym now)) ∙ ap (λ n. Some (CallRefused (refusal.WrongEpoch n))) (sym now)
 
 pub returns-then-not-is_get : goal.returns-then-not-is_get
 returns-then-not-is_get c =
     let v = c.args.self.now in let r = c.args.request.now in let h = c.in-Some.ensures in
-    let now : c.self.inside.epoch ≡ epoch_now v.items = c.self.invariant.epoch_is ∙ ap (λ (v : ShardModel). epoch_now v.items) c.self.view_is in
+    let now : c.self.inside.epoch ≡ epoch_now v.items = c.self.invariant.0.epoch_is ∙ ap (λ (v : ShardModel). epoch_now v.items) c.self.view_is in
     early_in v.store v.items v.contents (ask.Get r) (Some h.row) (c.if-request-self.false ∙ now) h.found
     ∙ used_get v.store v.items v.contents (record { block = r.block; client = r.client; nonce = r.nonce }) c.in-Some.call h r c.if-not-is_get.ensures
 
 pub returns-then-call-latest : goal.returns-then-call-latest
 returns-then-call-latest c =
     let v = c.args.self.now in let r = c.args.request.now in let h = c.in-Some.ensures in
-    let now : c.self.inside.epoch ≡ epoch_now v.items = c.self.invariant.epoch_is ∙ ap (λ (v : ShardModel). epoch_now v.items) c.self.view_is in
+    let now : c.self.inside.epoch ≡ epoch_now v.items = c.self.invariant.0.epoch_is ∙ ap (λ (v : ShardModel). epoch_now v.items) c.self.view_is in
     early_in v.store v.items v.contents (ask.Get r) (Some h.row) (c.if-request-self.false ∙ now) h.found
     ∙ over_get v.store v.items v.contents (record { block = r.block; client = r.client; nonce = r.nonce }) c.in-Some.call h r c.tip-latest.result.version c.if-not-is_get.ensures
     (ap (λ (t : Tip). t.version) c.tip-latest.ensures ∙ tip_version v.items r.block) c.if-call-latest.true
@@ -36,7 +36,7 @@ returns-then-call-latest c =
 pub returns-in_default : goal.returns-in_default
 returns-in_default c =
     let v = c.args.self.now in let r = c.args.request.now in let h = c.in-Some.ensures in
-    let now : c.self.inside.epoch ≡ epoch_now v.items = c.self.invariant.epoch_is ∙ ap (λ (v : ShardModel). epoch_now v.items) c.self.view_is in
+    let now : c.self.inside.epoch ≡ epoch_now v.items = c.self.invariant.0.epoch_is ∙ ap (λ (v : ShardModel). epoch_now v.items) c.self.view_is in
     subst HasBooking
     (sym (early_in v.store v.items v.contents (ask.Get r) (Some h.row) (c.if-request-self.false ∙ now) h.found
     ∙ again_get v.store v.items v.contents (record { block = r.block; client = r.client; nonce = r.nonce }) c.in-Some.call h r c.tip-latest.result.version (content_at v.contents r.block) c.if-not-is_get.ensures
@@ -46,7 +46,7 @@ returns-in_default c =
 pub returns-in-Ok : goal.returns-in-Ok
 returns-in-Ok c =
     let v = c.args.self.now in let r = c.args.request.now in let h = c.in-Some.ensures in
-    let now : c.self.inside.epoch ≡ epoch_now v.items = c.self.invariant.epoch_is ∙ ap (λ (v : ShardModel). epoch_now v.items) c.self.view_is in
+    let now : c.self.inside.epoch ≡ epoch_now v.items = c.self.invariant.0.epoch_is ∙ ap (λ (v : ShardModel). epoch_now v.items) c.self.view_is in
     early_in v.store v.items v.contents (ask.Get r) (Some h.row) (c.if-request-self.false ∙ now) h.found
     ∙ again_get v.store v.items v.contents (record { block = r.block; client = r.client; nonce = r.nonce }) c.in-Some.call h r c.tip-latest.result.version c.in-Ok.content c.if-not-is_get.ensures
     (ap (λ (t : Tip). t.version) c.tip-latest.ensures ∙ tip_version v.items r.block) c.if-call-latest.false c.in-Ok.ensures
@@ -56,5 +56,5 @@ returns-in-Ok c =
 pub returns-in-None : goal.returns-in-None
 returns-in-None c =
     let v = c.args.self.now in let r = c.args.request.now in
-    let now : c.self.inside.epoch ≡ epoch_now v.items = c.self.invariant.epoch_is ∙ ap (λ (v : ShardModel). epoch_now v.items) c.self.view_is in
+    let now : c.self.inside.epoch ≡ epoch_now v.items = c.self.invariant.0.epoch_is ∙ ap (λ (v : ShardModel). epoch_now v.items) c.self.view_is in
     early_in v.store v.items v.contents (ask.Get r) None (c.if-request-self.false ∙ now) c.in-None.ensures

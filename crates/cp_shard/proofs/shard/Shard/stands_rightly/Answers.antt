@@ -9,10 +9,10 @@ use Rattle.cp_shard.proofs.Views.{carried}
 use Rattle.cp_shard.proofs.shard.Shard.stands_rightly.Goals as goal
 
 pub returns-clause-items : goal.returns-clause-items
-returns-clause-items c = carried (λ v. Each (IsItemOf v.index) v.items) _ _ (sym c.self.view_is) c.self.invariant.each
+returns-clause-items c = carried (λ v. Each (IsItemOf v.index) v.items) _ _ (sym c.self.view_is) c.self.invariant.0.each
 
 pub returns-clause-contents : goal.returns-clause-contents
 returns-clause-contents c =
-    let s = c.self.inside in let has = c.self.invariant.has_contents in
+    let s = c.self.inside in let has = c.self.invariant.0.has_contents in
     λ b. carried (λ v. IsContentOf (latest_of v.items b) (content_at v.contents b)) _ _ (sym c.self.view_is)
     (subst (IsContentOf (latest_of s.items.items b)) (sym (content_seen s.items.items s.pages (run_at s.standings) s.pool b has)) (has.hashed b))
