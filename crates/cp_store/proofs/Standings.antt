@@ -1,0 +1,256 @@
+-- A store by shards stands rightly after each call.
+use Rattle.std.proofs.Common.{◌≡◌, ℕ, ◌+◌, ◌<◌, ◌≤◌, Bool, true, false, cond, eqb, List, [], ◌∷◌, ◌++◌, flat_map, get_or, set, Option, Some, None, Result, Ok, Err, refl, sym, ap, subst, ◌∙◌, inl, inr, arith}
+use Rattle.std.proofs.lemmas.Bool.{cases_lt, lt-ltb, eqb-true, eqb-false}
+use Rattle.std.proofs.lemmas.List.{append-nil, set-get_or}
+use Rattle.std.specs.Prelude.{IfOk, OnOk, OnErr}
+use Rattle.cp_chain.proofs.Each.{each_last}
+use Rattle.cp_core.proofs.ContentLemmas.{contents_other}
+use Rattle.cp_core.proofs.LifeLemmas.{at_same}
+use Rattle.cp_core.proofs.RowLemmas.{spells_reads}
+use Rattle.cp_core.proofs.SealLemmas.{each_keeps}
+use Rattle.cp_core.specs.Booking.{Booking}
+use Rattle.cp_core.specs.Store.{Store, StoreFits}
+use Rattle.cp_core.specs.Life.{RowItem, row_item, freezes, items_of, shard_of}
+use Rattle.cp_core.specs.Requests.{block_of}
+use Rattle.cp_core.specs.Calls.{Outcome, content_at, latest_of}
+use Rattle.cp_core.specs.Calls.Outcome.{Same, New}
+use Rattle.cp_core.specs.Honest.{Honest, IsItemOf, IsRowOf}
+use Rattle.cp_core.specs.Kept.{Keeps, PhaseFits, IsContentOf}
+use Rattle.cp_core.specs.Machine.{State, Admissible, step, with_row, next_leaf, content_in, with_content, appended}
+use Rattle.cp_core.specs.declared.answer.Answer.{Answer}
+use Rattle.cp_core.specs.declared.answer.Answer.TheVariants.{Booked, CallRefused}
+use Rattle.cp_core.specs.declared.call_refusal.CallRefusal.{CallRefusal}
+use Rattle.cp_core.specs.declared.call_refusal.CallRefusal.TheVariants as refusal
+use Rattle.cp_core.specs.declared.chronicle.Chronicle.{Chronicle}
+use Rattle.cp_core.specs.declared.content.Content.{Content}
+use Rattle.cp_core.specs.declared.event.Event.TheVariants.{Call}
+use Rattle.cp_core.specs.declared.leaves_over.LeavesOver.{LeavesOver}
+use Rattle.cp_core.specs.declared.phase.Phase.{Phase}
+use Rattle.cp_core.specs.declared.phase.Phase.TheVariants.{Running}
+use Rattle.cp_core.specs.declared.request.Request.{Request}
+use Rattle.cp_closer.specs.Closer.{CloserState}
+use Rattle.cp_closer.specs.Laws.{IsCloserOf}
+use Rattle.cp_shard.specs.Model.{ShardModel}
+use Rattle.cp_shard.specs.Steps.{answer_in, added, contents_after, drawn, step_of}
+use Rattle.cp_store.specs.Alike.{Alike}
+use Rattle.cp_store.specs.Shards.{AreMade, own_contents, state_of, IsStanding}
+use Rattle.cp_store.specs.Served.{answered, IsBooked, IsRefused, IsServed}
+use Rattle.cp_store.specs.declared.leaves.Leaves.{Leaves}
+use Rattle.cp_store.specs.Leaves.{given_by, found_by}
+use Rattle.cp_store.proofs.Alikes.{alike_refl, alike_sym, alike_eq, with_contents, is_with, more_at}
+use Rattle.cp_store.proofs.Parts.{closer_row}
+use Rattle.cp_store.proofs.ShardContents.{contents_there}
+use Rattle.cp_store.proofs.Serving.{given_none, given_one, settled_always, over_always, call_is, next_is, next_none, low, made_set, life_same, life_more, contents_set}
+
+-- ---- what is kept is kept alike
+
+keeps_with : (s : Store) (b : State) (c : List Content) → ((block : ℕ) → content_at c block ≡ content_at b.contents block) → Keeps s b → Keeps s (with_contents b c)
+keeps_with s b c same k = record {
+  honest = k.honest;
+  phase = k.phase;
+  drawn = k.drawn;
+  drawn_within = k.drawn_within;
+  counted = k.counted;
+  contents = λ block. subst (IsContentOf (latest_of (items_of b.life block) block)) (sym (same block)) (k.contents block);
+}
+
+pub keeps_alike : (s : Store) (a b : State) → Alike a b → Keeps s b → Keeps s a
+keeps_alike s a b h k = subst (Keeps s) (sym (is_with b a (alike_sym a b h))) (keeps_with s b a.contents h.contents k)
+
+-- ---- the state after a call
+
+-- what the shard's contents are after an outcome
+abbrev After : ShardModel → ShardModel → Request → Outcome → Type 0
+After x y request o = (block : ℕ) → content_at y.contents block ≡ content_at (contents_after o request x.contents) block
+
+same_alike : (s : Store) (shards : List ShardModel) (c : CloserState) (n k : ℕ) (d y : ShardModel) (request : Request) (answer : Answer) → AreMade s shards → AreMade s (set shards k y) → k < 16
+    → y.items ≡ (get_or shards k d).items ++ [] → After (get_or shards k d) y request (Same answer) → Alike (state_of (set shards k y) c n) (state_of shards c n)
+same_alike s shards c n k d y request answer made now lt items contents = record { life = life_same shards c n k d y s made lt items; phase = refl; published = refl; drawn = refl; contents = at }
+  where
+    go : (b : ℕ) (t : Bool) → eqb (shard_of b) k ≡ t → cond t (content_at y.contents b) (content_at (flat_map own_contents shards) b) ≡ content_at (flat_map own_contents shards) b
+    go b true e = contents b ∙ ap (λ (i : ℕ). content_at (get_or shards i d).contents b) (sym (eqb-true (shard_of b) k e)) ∙ sym (contents_there s shards b d made)
+    go b false e = refl
+
+    at : (b : ℕ) → content_at (flat_map own_contents (set shards k y)) b ≡ content_at (flat_map own_contents shards) b
+    at b = contents_set s shards k d y b made now lt ∙ go b (eqb (shard_of b) k) refl
+
+new_alike : (s : Store) (shards : List ShardModel) (c : CloserState) (n : ℕ) (d y : ShardModel) (request : Request) (answer : Answer) (row : RowItem) → AreMade s shards → AreMade s (set shards (shard_of (block_of request)) y)
+    → y.items ≡ (get_or shards (shard_of (block_of request)) d).items ++ row_item row ∷ [] → After (get_or shards (shard_of (block_of request)) d) y request (New answer row)
+    → Alike (state_of (set shards (shard_of (block_of request)) y) c (n + 1)) (with_row (state_of shards c n) request (row_item row))
+new_alike s shards c n d y request answer row made now items contents =
+    record { life = life_more shards c (n + 1) n k d y (row_item row) s made lt items; phase = refl; published = refl; drawn = refl; contents = at }
+  where
+    k : ℕ
+    k = shard_of (block_of request)
+
+    lt : k < 16
+    lt = low (block_of request)
+
+    go : (b : ℕ) (t : Bool) → eqb (shard_of b) k ≡ t → cond t (content_at y.contents b) (content_at (flat_map own_contents shards) b) ≡ content_at (with_content (flat_map own_contents shards) (content_in request)) b
+    go b true e =
+        contents b
+        ∙ more_at (get_or shards k d).contents (flat_map own_contents shards) request b
+        (ap (λ (i : ℕ). content_at (get_or shards i d).contents b) (sym (eqb-true (shard_of b) k e)) ∙ sym (contents_there s shards b d made))
+    go b false e = sym (contents_other (flat_map own_contents shards) request b (λ same. eqb-false (shard_of b) k e (ap shard_of (sym same))))
+
+    at : (b : ℕ) → content_at (flat_map own_contents (set shards k y)) b ≡ content_at (with_content (flat_map own_contents shards) (content_in request)) b
+    at b = contents_set s shards k d y b made now lt ∙ go b (eqb (shard_of b) k) refl
+
+-- ---- the closer of the life after a call
+
+running_count : (s : Store) (st : State) (e k : ℕ) → Keeps s st → st.phase ≡ Running e → k < 16 → freezes (get_or st.life.shards k []) + 1 ≡ e
+running_count s st e k keeps at lt =
+    let fits : PhaseFits s st.life (Running e) st.published = subst (λ (p : Phase). PhaseFits s st.life p st.published) at keeps.phase in
+    fits.0 k lt
+
+closer_new : (s : Store) (st : State) (c : CloserState) (e k : ℕ) (row : RowItem) → Keeps s st → IsCloserOf s st.life c → st.phase ≡ Running e → c.phase ≡ Running e → k < 16 → Honest s (appended st.life k (row_item row)) → IsCloserOf s (appended st.life k (row_item row)) c
+closer_new s st c e k row keeps of at phase lt honest =
+    let each = (honest.shards k lt).each in
+    let f : IsRowOf k (get_or st.life.shards k []) row = each_last (IsItemOf k) (get_or st.life.shards k []) (row_item row) (λ front x back h. each front x back (at_same st.life k (row_item row) keeps.honest.sixteen lt ∙ h)) in
+    let count = running_count s st e k keeps at lt in
+    closer_row s st.life c e k row f.entry of phase (omega (arith, count)) keeps.honest.sixteen lt (spells_reads row.entry f.entry f.spells) (f.epoch ∙ count)
+
+-- ---- a call
+
+-- what a call leads to: the store stands, and the answer and the state are the step's
+pub record IsCalled (s : Store) (shards : List ShardModel) (c : CloserState) (n pass : ℕ) (request : Request) (shards' : List ShardModel) (n' : ℕ) (answer : Answer) : Type 0 where
+  pub standing : IsStanding s shards' c n'
+  pub answer_is : answer ≡ (step s (state_of shards c n) (Call pass request)).0
+  pub alike : Alike (state_of shards' c n') (step s (state_of shards c n) (Call pass request)).1
+
+called_same : (s : Store) (shards : List ShardModel) (c : CloserState) (n pass : ℕ) (request : Request) (d y : ShardModel) (answer : Answer) → IsStanding s shards c n
+    → step_of (get_or shards (shard_of (block_of request)) d) pass request (next_leaf s n) ≡ Same answer → AreMade s (set shards (shard_of (block_of request)) y)
+    → y.items ≡ (get_or shards (shard_of (block_of request)) d).items ++ [] → After (get_or shards (shard_of (block_of request)) d) y request (Same answer)
+    → IsCalled s shards c n pass request (set shards (shard_of (block_of request)) y) n answer
+called_same s shards c n pass request d y answer st o now items contents =
+    let alike = same_alike s shards c n (shard_of (block_of request)) d y request answer st.made now (low (block_of request)) items contents in
+    let is : step s (state_of shards c n) (Call pass request) ≡ (answer, state_of shards c n) = call_is s shards c n pass request d (Same answer) st.made o in
+    record {
+      standing = record { made = now; keeps = keeps_alike s _ (state_of shards c n) alike st.keeps; closer = subst (λ (r : Chronicle). IsCloserOf s r c) (sym alike.life) st.closer };
+      answer_is = sym (ap (λ (x : Answer × State). x.0) is);
+      alike = subst (λ (x : Answer × State). Alike (state_of (set shards (shard_of (block_of request)) y) c n) x.1) (sym is) alike;
+    }
+
+called_new : (s : Store) (shards : List ShardModel) (c : CloserState) (n e pass : ℕ) (request : Request) (d y : ShardModel) (answer : Answer) (row : RowItem) → StoreFits s → IsStanding s shards c n → c.phase ≡ Running e → Admissible s (Call pass request)
+    → step_of (get_or shards (shard_of (block_of request)) d) pass request (next_leaf s n) ≡ New answer row → AreMade s (set shards (shard_of (block_of request)) y)
+    → y.items ≡ (get_or shards (shard_of (block_of request)) d).items ++ row_item row ∷ [] → After (get_or shards (shard_of (block_of request)) d) y request (New answer row)
+    → IsCalled s shards c n pass request (set shards (shard_of (block_of request)) y) (n + 1) answer
+called_new s shards c n e pass request d y answer row fits st phase ok o now items contents =
+    let k : ℕ = shard_of (block_of request) in
+    let old : State = state_of shards c n in
+    let new : State = with_row old request (row_item row) in
+    let alike : Alike (state_of (set shards k y) c (n + 1)) new = new_alike s shards c n d y request answer row st.made now items contents in
+    let is : step s old (Call pass request) ≡ (answer, new) = call_is s shards c n pass request d (New answer row) st.made o in
+    let kept : Keeps s new = subst (λ (x : Answer × State). Keeps s x.1) is (each_keeps s old (Call pass request) fits st.keeps ok) in
+    let closer : IsCloserOf s new.life c = closer_new s old c e k row st.keeps st.closer phase phase (low (block_of request)) kept.honest in
+    record {
+      standing = record { made = now; keeps = keeps_alike s _ new alike kept; closer = subst (λ (r : Chronicle). IsCloserOf s r c) (sym alike.life) closer };
+      answer_is = sym (ap (λ (x : Answer × State). x.0) is);
+      alike = subst (λ (x : Answer × State). Alike (state_of (set shards k y) c (n + 1)) x.1) (sym is) alike;
+    }
+
+-- ---- by what the shard answers
+
+-- the store after the call
+abbrev pub IsServedStore : Store → List ShardModel → CloserState → Leaves → ℕ → Request → ShardModel → Leaves → Option Answer → Type 0
+IsServedStore s shards c l pass request y l' (Some answer) = IsCalled s shards c l.next pass request (set shards (shard_of (block_of request)) y) l'.next answer
+IsServedStore s shards c l pass request y l' None = IsStanding s (set shards (shard_of (block_of request)) y) c l'.next × Alike (state_of (set shards (shard_of (block_of request)) y) c l'.next) (state_of shards c l.next)
+
+booked_case : (s : Store) (shards : List ShardModel) (c : CloserState) (l l' : Leaves) (e pass : ℕ) (request : Request) (d y : ShardModel) (b : Booking) (o : Outcome) → StoreFits s → IsStanding s shards c l.next → c.phase ≡ Running e → Admissible s (Call pass request)
+    → l.limit ≡ s.attestations → l'.next ≤ l'.limit → IsBooked (get_or shards (shard_of (block_of request)) d) y l l' pass request b → step_of (get_or shards (shard_of (block_of request)) d) pass request (Ok b.leaf) ≡ o
+    → IsCalled s shards c l.next pass request (set shards (shard_of (block_of request)) y) l'.next (Booked b)
+booked_case s shards c l l' e pass request d y b (Same answer) fits st phase ok limit within h is =
+    let k : ℕ = shard_of (block_of request) in
+    let x : ShardModel = get_or shards k d in
+    let now = made_set s shards k d y st.made (low (block_of request)) h.store h.index h.pages h.closings in
+    let drawn_none = given_none l l' (h.given ∙ ap (λ (o : Outcome). given_by l ++ drawn o b.leaf) is ∙ append-nil _) in
+    let answer_is : answer ≡ Booked b = sym (ap answer_in is) ∙ h.answer in
+    let r = called_same s shards c l.next pass request d y answer st (settled_always x pass request b.leaf answer (next_leaf s l.next) is) now (h.items ∙ ap (λ (o : Outcome). x.items ++ added o) is) (λ block. h.contents block ∙ ap (λ (o : Outcome). content_at (contents_after o request x.contents) block) is) in
+    subst (λ (m : ℕ). IsCalled s shards c l.next pass request (set shards k y) m (Booked b)) (sym drawn_none.1) (subst (IsCalled s shards c l.next pass request (set shards k y) l.next) answer_is r)
+booked_case s shards c l l' e pass request d y b (New answer row) fits st phase ok limit within h is =
+    let k : ℕ = shard_of (block_of request) in
+    let x : ShardModel = get_or shards k d in
+    let now = made_set s shards k d y st.made (low (block_of request)) h.store h.index h.pages h.closings in
+    let one = given_one l l' b.leaf (h.given ∙ ap (λ (o : Outcome). given_by l ++ drawn o b.leaf) is) in
+    let lt : l.next < s.attestations = omega (arith, within, one.0, one.1, limit) in
+    let next : Ok b.leaf ≡ next_leaf s l.next = ap Ok one.2 ∙ sym (next_is s l.next lt) in
+    let answer_is : answer ≡ Booked b = sym (ap answer_in is) ∙ h.answer in
+    let r = called_new s shards c l.next e pass request d y answer row fits st phase ok (ap (step_of x pass request) (sym next) ∙ is) now (h.items ∙ ap (λ (o : Outcome). x.items ++ added o) is) (λ block. h.contents block ∙ ap (λ (o : Outcome). content_at (contents_after o request x.contents) block) is) in
+    subst (λ (m : ℕ). IsCalled s shards c l.next pass request (set shards k y) m (Booked b)) (sym one.1) (subst (IsCalled s shards c l.next pass request (set shards k y) (l.next + 1)) answer_is r)
+
+-- the shards where one is put back as it was
+back : (shards : List ShardModel) (k : ℕ) (d y : ShardModel) → y ≡ get_or shards k d → set shards k y ≡ shards
+back shards k d y same = ap (set shards k) same ∙ set-get_or shards k d
+
+refused_called : (s : Store) (shards : List ShardModel) (c : CloserState) (l l' : Leaves) (pass : ℕ) (request : Request) (d y : ShardModel) (answer : Answer) → IsStanding s shards c l.next → y ≡ get_or shards (shard_of (block_of request)) d → l'.next ≡ l.next
+    → step_of (get_or shards (shard_of (block_of request)) d) pass request (next_leaf s l.next) ≡ Same answer → IsCalled s shards c l.next pass request (set shards (shard_of (block_of request)) y) l'.next answer
+refused_called s shards c l l' pass request d y answer st same next o =
+    let k : ℕ = shard_of (block_of request) in
+    let is : step s (state_of shards c l.next) (Call pass request) ≡ (answer, state_of shards c l.next) = call_is s shards c l.next pass request d (Same answer) st.made o in
+    let r : IsCalled s shards c l.next pass request shards l.next answer = record {
+      standing = st;
+      answer_is = sym (ap (λ (x : Answer × State). x.0) is);
+      alike = subst (λ (x : Answer × State). Alike (state_of shards c l.next) x.1) (sym is) (alike_refl (state_of shards c l.next));
+    } in
+    subst (λ (m : ℕ). IsCalled s shards c l.next pass request (set shards k y) m answer) (sym next) (subst (λ (xs : List ShardModel). IsCalled s shards c l.next pass request xs l.next answer) (sym (back shards k d y same)) r)
+
+none_left : (l l' : Leaves) (over : LeavesOver) → l'.limit ≡ l.limit → l'.next ≡ l.next → over.drawn ≡ found_by l' → l.limit ≤ over.drawn → l.limit ≤ l.next
+none_left l l' over limit next found le = elim (cases_lt l'.next l'.limit) [
+  | inl lt ↦
+      let is : found_by l' ≡ l'.next = ap (λ (b : Bool). cond b l'.next l'.refused) (lt-ltb l'.next l'.limit lt) in
+      absurd (omega (arith, lt, is, found, le, limit, next))
+  | inr ge ↦ omega (arith, ge, limit, next)
+]
+
+refused_case : (s : Store) (shards : List ShardModel) (c : CloserState) (l l' : Leaves) (pass : ℕ) (request : Request) (d y : ShardModel) (why : CallRefusal) → IsStanding s shards c l.next → l.limit ≡ s.attestations
+    → IsRefused (get_or shards (shard_of (block_of request)) d) y l l' pass request why → IsServedStore s shards c l pass request y l' (answered (Err why) l'.next l'.limit)
+refused_case s shards c l l' pass request d y refusal.OutOfMemory st limit h =
+    let same = back shards (shard_of (block_of request)) d y h.same in
+    let next = (given_none l l' h.given).1 in (
+      subst (λ (m : ℕ). IsStanding s (set shards (shard_of (block_of request)) y) c m) (sym next) (subst (λ (xs : List ShardModel). IsStanding s xs c l.next) (sym same) st),
+      alike_eq _ _ (ap (λ (xs : List ShardModel). state_of xs c l'.next) same ∙ ap (state_of shards c) next),
+    )
+refused_case s shards c l l' pass request d y (refusal.LeavesOver over) st limit h =
+    let none = given_none l l' h.given in
+    let left : l.limit ≤ l.next = none_left l l' over none.0 none.1 h.refuses.1 h.refuses.3 in
+    let other : LeavesOver = record { drawn = l.next; limit = s.attestations } in
+    let told : record { drawn = l'.next; limit = l'.limit } ≡ other = ap (λ (m : ℕ). record { drawn = m; limit = l'.limit }) none.1 ∙ ap (λ (m : ℕ). record { drawn = l.next; limit = m }) (none.0 ∙ limit) in
+    let o = ap (step_of (get_or shards (shard_of (block_of request)) d) pass request) (next_none s l.next (omega (arith, left, limit))) ∙ over_always (get_or shards (shard_of (block_of request)) d) pass request over other h.refuses.0 in
+    subst (λ (x : LeavesOver). IsCalled s shards c l.next pass request (set shards (shard_of (block_of request)) y) l'.next (CallRefused (refusal.LeavesOver x))) (sym told)
+    (refused_called s shards c l l' pass request d y (CallRefused (refusal.LeavesOver other)) st h.same none.1 o)
+refused_case s shards c l l' pass request d y (refusal.WrongEpoch current) st limit h = refused_called s shards c l l' pass request d y (CallRefused (refusal.WrongEpoch current)) st h.same (given_none l l' h.given).1 (h.refuses (next_leaf s l.next))
+refused_case s shards c l l' pass request d y (refusal.NonceUsed at) st limit h = refused_called s shards c l l' pass request d y (CallRefused (refusal.NonceUsed at)) st h.same (given_none l l' h.given).1 (h.refuses (next_leaf s l.next))
+refused_case s shards c l l' pass request d y (refusal.Overtaken latest) st limit h = refused_called s shards c l l' pass request d y (CallRefused (refusal.Overtaken latest)) st h.same (given_none l l' h.given).1 (h.refuses (next_leaf s l.next))
+refused_case s shards c l l' pass request d y (refusal.StaleVersion latest) st limit h = refused_called s shards c l l' pass request d y (CallRefused (refusal.StaleVersion latest)) st h.same (given_none l l' h.given).1 (h.refuses (next_leaf s l.next))
+refused_case s shards c l l' pass request d y (refusal.PoolFull free need) st limit h = refused_called s shards c l l' pass request d y (CallRefused (refusal.PoolFull free need)) st h.same (given_none l l' h.given).1 (h.refuses (next_leaf s l.next))
+
+pub served : (s : Store) (shards : List ShardModel) (c : CloserState) (l l' : Leaves) (e pass : ℕ) (request : Request) (d y : ShardModel) (outcome : Result Booking CallRefusal) → StoreFits s → IsStanding s shards c l.next → c.phase ≡ Running e → Admissible s (Call pass request)
+    → l.limit ≡ s.attestations → l'.next ≤ l'.limit → IsServed (get_or shards (shard_of (block_of request)) d) y l l' pass request outcome → IsServedStore s shards c l pass request y l' (answered outcome l'.next l'.limit)
+served s shards c l l' e pass request d y (Ok b) fits st phase ok limit within h = booked_case s shards c l l' e pass request d y b _ fits st phase ok limit within h refl
+served s shards c l l' e pass request d y (Err why) fits st phase ok limit within h = refused_case s shards c l l' pass request d y why st limit h
+
+-- the number of leaves stays
+pub limit_stays : (x y : ShardModel) (l l' : Leaves) (pass : ℕ) (request : Request) (outcome : Result Booking CallRefusal) → IsServed x y l l' pass request outcome → l'.limit ≡ l.limit
+limit_stays x y l l' pass request (Ok b) h = go (step_of x pass request (Ok b.leaf)) h.given
+  where
+    go : (o : Outcome) → given_by l' ≡ given_by l ++ drawn o b.leaf → l'.limit ≡ l.limit
+    go (Same answer) e = (given_none l l' (e ∙ append-nil _)).0
+    go (New answer row) e = (given_one l l' b.leaf e).0
+limit_stays x y l l' pass request (Err why) h = (given_none l l' h.given).0
+
+-- ---- what a call returns
+
+pub record IsReturned {E : Type 0} (s : Store) (shards : List ShardModel) (c : CloserState) (l : Leaves) (pass : ℕ) (request : Request) (y : ShardModel) (l' : Leaves) (r : Result Answer E) : Type 0 where
+  pub standing : IsStanding s (set shards (shard_of (block_of request)) y) c l'.next
+  pub answer : IfOk r (λ a. a ≡ (step s (state_of shards c l.next) (Call pass request)).0)
+  pub after : OnOk r (Alike (state_of (set shards (shard_of (block_of request)) y) c l'.next) (step s (state_of shards c l.next) (Call pass request)).1)
+  pub unchanged : OnErr r (Alike (state_of (set shards (shard_of (block_of request)) y) c l'.next) (state_of shards c l.next))
+
+pub returned : {E : Type 0} (s : Store) (shards : List ShardModel) (c : CloserState) (l : Leaves) (pass : ℕ) (request : Request) (y : ShardModel) (l' : Leaves) (o : Option Answer) (r : Result Answer E) → IsServedStore s shards c l pass request y l' o
+    → IfOk r (λ a. o ≡ Some a) → OnErr r (o ≡ None) → IsReturned s shards c l pass request y l' r
+returned s shards c l pass request y l' o (Ok a) h said memory =
+    let called : IsCalled s shards c l.next pass request (set shards (shard_of (block_of request)) y) l'.next a = subst (IsServedStore s shards c l pass request y l') said h in
+    record { standing = called.standing; answer = called.answer_is; after = called.alike; unchanged = tt }
+returned s shards c l pass request y l' o (Err e) h said memory =
+    let same : IsServedStore s shards c l pass request y l' None = subst (IsServedStore s shards c l pass request y l') memory h in
+    record { standing = same.0; answer = tt; after = tt; unchanged = same.1 }

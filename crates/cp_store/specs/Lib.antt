@@ -1,0 +1,10 @@
+pub mod Alike
+pub mod Closes
+pub mod Running
+pub mod Logs
+pub mod Leaves
+pub mod Shards
+pub mod Served
+pub mod Inside
+pub mod Freezes
+pub mod Bodies
