@@ -1,0 +1,10 @@
+pub mod Found
+pub mod Splits
+pub mod Numbers
+pub mod Lines
+pub mod Inserted
+pub mod WriterLemmas
+pub mod Listed
+pub mod Admits
+pub mod Steps
+pub mod Opening
