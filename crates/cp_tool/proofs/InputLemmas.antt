@@ -11,7 +11,7 @@ use Rattle.cp_tool.specs.View.{ending_view}
 use Rattle.cp_tool.specs.declared.ending.Ending.{Ending}
 
 -- the count rose, also where it is looked at from an earlier moment
-rose_before : (a b c : ℕ) → a ≤ b → Rose b c → Rose a c
+pub rose_before : (a b c : ℕ) → a ≤ b → Rose b c → Rose a c
 rose_before a b c later rose = omega (arith, later, rose)
 
 pub stops_before : (a b c : ℕ) (ending : Outcome) → a ≤ b → Stops b c ending → Stops a c ending

@@ -1,4 +1,13 @@
+pub mod ClientLemmas
+pub mod ClientStatus
+pub mod AuditRefusals
+pub mod AuditStatusLemmas
+pub mod AuditingLemmas
 pub mod Contents
+pub mod DrawLemmas
+pub mod FaultLemmas
 pub mod InputLemmas
+pub mod NumberLemmas
 pub mod Pieces
+pub mod SourceLemmas
 pub mod StatusLemmas

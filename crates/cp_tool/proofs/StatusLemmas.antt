@@ -12,11 +12,16 @@ use Rattle.lms_tree.specs.Secret.{public_of}
 use Rattle.cp_evidence.specs.Evidence.{Evidence, evidence_of, kind_of}
 use Rattle.cp_evidence.specs.Conditions.{tried}
 use Rattle.cp_judge.specs.Judging.{judgement_of, judgement_on, judgement_by, IsGuilty}
+use Rattle.cp_outside.specs.declared.disk.Disk as disk
 use Rattle.cp_judge.specs.declared.judgement.Judgement.{Judgement}
 use Rattle.cp_judge.specs.declared.judgement.Judgement.TheVariants.{BadKey, Malformed, NotEvidence, Guilty}
 use Rattle.cp_judge.proofs.Guilt.{guilty}
 use Rattle.cp_tool.specs.Commands.{Command}
-use Rattle.cp_tool.specs.Commands.Command.{Judge, Verify, Keygen}
+use Rattle.cp_tool.specs.Commands.Command.{Judge, Verify, Keygen, AskPut, AskGet, Accept, Audit}
+use Rattle.cp_tool.specs.PutRuns.{CommandEnds, AskPutEnds, IsAskPut}
+use Rattle.cp_tool.proofs.ClientStatus.{ask_put_not2, ask_get_not2, accept_not2}
+use Rattle.cp_tool.proofs.FaultLemmas.{command_4}
+use Rattle.cp_tool.proofs.AuditRefusals.{audit_not2}
 use Rattle.cp_tool.specs.Endings.{Outcome, judged, usage, short_seed, unprinted_status}
 use Rattle.cp_tool.specs.Reports.{Reports}
 use Rattle.cp_tool.specs.Runs.{Files, RunEnds, JudgeEnds, KeyEnds, JudgeStatus, Stops, KeepsAll, input_of, ending_of, judge_ending, verify_ending, verified, key_made, secret_in}
@@ -109,6 +114,41 @@ run_2 (Some (Keygen s height ots out)) old new ending ends e = absurd (keygen_ca
     keygen_case : KeyEnds (key_made ends.seed_file s height ots) out old new ending ⊎ (Stops old.faults new.faults ending × KeepsAll old new) → Not2 ending
     keygen_case (inl made) = key_not2 (key_made ends.seed_file s height ots) out old new ending (made_refuses_3 ends.seed_file s height ots) made
     keygen_case (inr stops) = stops_not2 _ _ ending stops.0
+run_2 (Some (AskPut words)) old new ending ends e = absurd ends
+run_2 (Some (AskGet words)) old new ending ends e = absurd (ask_get_not2 words old new ending ends e)
+run_2 (Some (Accept words)) old new ending ends e = absurd (accept_not2 words old new ending ends e)
+run_2 (Some (Audit words)) old new ending ends e = absurd (audit_not2 words old new ending ends e)
+
+-- ---- the vault's disk
+
+module _ {K : Type 0} (g : disk.Ghosts K) where
+  -- the command is `ask-put`, or takes files alone and leaves the disk
+  apart : (command : Option Command) (old new : Files) (before after : K) (ending : Outcome) → CommandEnds g command old new before after ending
+      → (IsAskPut command × (ending.status ≡ 2 → ⊥)) ⊎ (RunEnds command old new ending × (after ≡ before))
+  apart None old new before after ending ends = inr ends
+  apart (Some (Judge k e)) old new before after ending ends = inr ends
+  apart (Some (Verify k t s)) old new before after ending ends = inr ends
+  apart (Some (Keygen s height ots out)) old new before after ending ends = inr ends
+  apart (Some (AskPut words)) old new before after ending ends = inl (tt, ask_put_not2 g words old new before after ending ends)
+  apart (Some (AskGet words)) old new before after ending ends = inr ends
+  apart (Some (Accept words)) old new before after ending ends = inr ends
+  apart (Some (Audit words)) old new before after ending ends = inr ends
+
+  pub disk_untouched : (command : Option Command) (old new : Files) (before after : K) (ending : Outcome) → CommandEnds g command old new before after ending
+      → IsAskPut command ⊎ (after ≡ before)
+  disk_untouched command old new before after ending ends = go (apart command old new before after ending ends)
+    where
+      go : (IsAskPut command × (ending.status ≡ 2 → ⊥)) ⊎ (RunEnds command old new ending × (after ≡ before)) → IsAskPut command ⊎ (after ≡ before)
+      go (inl put) = inl put.0
+      go (inr alone) = inr alone.1
+
+  -- no ending of `ask-put` has the status 2
+  command_2 : (command : Option Command) (old new : Files) (before after : K) (ending : Outcome) → CommandEnds g command old new before after ending → ending.status ≡ 2 → command ≡ None
+  command_2 command old new before after ending ends e = go (apart command old new before after ending ends)
+    where
+      go : (IsAskPut command × (ending.status ≡ 2 → ⊥)) ⊎ (RunEnds command old new ending × (after ≡ before)) → command ≡ None
+      go (inl put) = absurd (put.1 e)
+      go (inr alone) = run_2 command old new ending alone.0 e
 
 -- ---- the answered status
 
@@ -131,21 +171,22 @@ printed_status : (held now : Option (List ℕ)) (before after : ℕ) (ending : O
 printed_status held now before after ending status (inl prints) low = sym prints.answers
 printed_status held now before after ending status (inr fails) low = absurd (not_low (unprinted_status ending) status (unprinted_high ending) low (sym fails.answers))
 
-pub status_2 : (command : Option Command) (old new : Files) (ending : Outcome) (held now : Option (List ℕ)) (before after status : ℕ) → RunEnds command old new ending
-    → Reports held now before after ending status → status ≡ 2 → command ≡ None
-status_2 command old new ending held now before after status ends reports e =
-    run_2 command old new ending ends (printed_status held now before after ending status reports (omega (arith, e)) ∙ e)
+module _ {K : Type 0} (g : disk.Ghosts K) where
+  pub status_2 : (command : Option Command) (old new : Files) (first last : K) (ending : Outcome) (held now : Option (List ℕ)) (before after status : ℕ) → CommandEnds g command old new first last ending
+      → Reports held now before after ending status → status ≡ 2 → command ≡ None
+  status_2 command old new first last ending held now before after status ends reports e =
+      command_2 g command old new first last ending ends (printed_status held now before after ending status reports (omega (arith, e)) ∙ e)
 
-pub no_command_2 : (command : Option Command) (old new : Files) (ending : Outcome) (held now : Option (List ℕ)) (before after status : ℕ) → RunEnds command old new ending
-    → Reports held now before after ending status → command ≡ None → (status ≡ 2) ⊎ ((status ≡ 4) × Rose before after)
-no_command_2 command old new ending held now before after status ends reports none = go reports
-  where
-    is_usage : ending ≡ usage
-    is_usage = (subst (λ c. RunEnds c old new ending) none ends).0
+  pub no_command_2 : (command : Option Command) (old new : Files) (first last : K) (ending : Outcome) (held now : Option (List ℕ)) (before after status : ℕ) → CommandEnds g command old new first last ending
+      → Reports held now before after ending status → command ≡ None → (status ≡ 2) ⊎ ((status ≡ 4) × Rose before after)
+  no_command_2 command old new first last ending held now before after status ends reports none = go reports
+    where
+      is_usage : ending ≡ usage
+      is_usage = (subst (λ c. CommandEnds g c old new first last ending) none ends).0.0
 
-    go : Reports held now before after ending status → (status ≡ 2) ⊎ ((status ≡ 4) × Rose before after)
-    go (inl prints) = inl (prints.answers ∙ ap (λ o. o.status) is_usage)
-    go (inr fails) = inr (fails.answers ∙ ap unprinted_status is_usage, fails.cause)
+      go : Reports held now before after ending status → (status ≡ 2) ⊎ ((status ≡ 4) × Rose before after)
+      go (inl prints) = inl (prints.answers ∙ ap (λ o. o.status) is_usage)
+      go (inr fails) = inr (fails.answers ∙ ap unprinted_status is_usage, fails.cause)
 
 -- ---- judge
 
@@ -215,7 +256,7 @@ judged_not5 (Malformed at) = refl
 judged_not5 (NotEvidence kind condition) = refl
 judged_not5 (Guilty kind) = refl
 
-reported : (held now : Option (List ℕ)) (before after : ℕ) (ending : Outcome) (status : ℕ) → Reports held now before after ending status → ((status ≡ 4) ⊎ (status ≡ 5)) ⊎ (status ≡ ending.status)
+pub reported : (held now : Option (List ℕ)) (before after : ℕ) (ending : Outcome) (status : ℕ) → Reports held now before after ending status → ((status ≡ 4) ⊎ (status ≡ 5)) ⊎ (status ≡ ending.status)
 reported held now before after ending status (inl prints) = inr prints.answers
 reported held now before after ending status (inr fails) = inl (high (unprinted_high ending))
   where
@@ -223,15 +264,15 @@ reported held now before after ending status (inr fails) = inl (high (unprinted_
     high (inl four) = inl (fails.answers ∙ four)
     high (inr five) = inr (fails.answers ∙ five)
 
-stopped : (before now : ℕ) (ending : Outcome) (status : ℕ) → Stops before now ending → ((status ≡ 4) ⊎ (status ≡ 5)) ⊎ (status ≡ ending.status) → (status ≡ 4) ⊎ (status ≡ 5)
+pub stopped : (before now : ℕ) (ending : Outcome) (status : ℕ) → Stops before now ending → ((status ≡ 4) ⊎ (status ≡ 5)) ⊎ (status ≡ ending.status) → (status ≡ 4) ⊎ (status ≡ 5)
 stopped before now ending status stops (inl high) = high
 stopped before now ending status (inl fault) (inr same) = inl (same ∙ ap (λ o. o.status) fault.0)
 stopped before now ending status (inr memory) (inr same) = inr (same ∙ ap (λ o. o.status) memory)
 
-pub judge_status : (command : Option Command) (old new : Files) (ending : Outcome) (held now : Option (List ℕ)) (before after status : ℕ) → RunEnds command old new ending
+judge_ends : (command : Option Command) (old new : Files) (ending : Outcome) (held now : Option (List ℕ)) (before after status : ℕ) → RunEnds command old new ending
     → Reports held now before after ending status → (k e key bytes : List ℕ) → command ≡ Some (Judge k e) → IsTrue old.tells
     → old.file k ≡ Some key → length key ≤ 56 → old.file e ≡ Some bytes → length bytes ≤ 536870912 → JudgeStatus key bytes status
-judge_status command old new ending held now before after status ends reports k e key bytes is told key_is key_fits bytes_is bytes_fit =
+judge_ends command old new ending held now before after status ends reports k e key bytes is told key_is key_fits bytes_is bytes_fit =
     let judge : JudgeEnds k e old new ending = subst (λ c. RunEnds c old new ending) is ends in
     let found_key : judge.key_file ≡ Some key = judge.key_is told ∙ key_is in
     let found_bytes : judge.evidence_file ≡ Some bytes = judge.evidence_is told ∙ bytes_is in
@@ -248,4 +289,21 @@ judge_status command old new ending held now before after status ends reports k 
         told_status (inr answered) same = inr (answered ∙ same)
     go (inr stops) whole = of_judged key bytes status (inl (stopped _ _ ending status stops (reported held now before after ending status reports)))
 
-pub ruleset statuses = (status_2, no_command_2, judge_status)
+pub judge_status : {K : Type 0} (g : disk.Ghosts K) (command : Option Command) (old new : Files) (first last : K) (ending : Outcome) (held now : Option (List ℕ)) (before after status : ℕ) → CommandEnds g command old new first last ending
+    → Reports held now before after ending status → (k e key bytes : List ℕ) → command ≡ Some (Judge k e) → IsTrue old.tells
+    → old.file k ≡ Some key → length key ≤ 56 → old.file e ≡ Some bytes → length bytes ≤ 536870912 → JudgeStatus key bytes status
+judge_status g command old new first last ending held now before after status ends reports k e key bytes is told key_is key_fits bytes_is bytes_fit =
+    let judge : JudgeEnds k e old new ending = (subst (λ c. CommandEnds g c old new first last ending) is ends).0 in
+    judge_ends (Some (Judge k e)) old new ending held now before after status judge reports k e key bytes refl told key_is key_fits bytes_is bytes_fit
+
+-- a fault was counted by the folder, the vault's disk or the sink
+pub status_4 : {K : Type 0} (g : disk.Ghosts K) (command : Option Command) (old new : Files) (first last : K) (ending : Outcome) (held now : Option (List ℕ)) (before after status : ℕ) → CommandEnds g command old new first last ending
+    → Reports held now before after ending status → status ≡ 4 → Rose old.faults new.faults ⊎ Rose (g.faults first) (g.faults last) ⊎ Rose before after
+status_4 g command old new first last ending held now before after status ends (inl prints) e = go (command_4 g command old new first last ending ends (sym prints.answers ∙ e))
+  where
+    go : Rose old.faults new.faults ⊎ Rose (g.faults first) (g.faults last) → Rose old.faults new.faults ⊎ Rose (g.faults first) (g.faults last) ⊎ Rose before after
+    go (inl files) = inl files
+    go (inr vault) = inr (inl vault)
+status_4 g command old new first last ending held now before after status ends (inr fails) e = inr (inr fails.cause)
+
+pub ruleset statuses = (no_command_2, judge_status, disk_untouched)

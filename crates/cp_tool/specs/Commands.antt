@@ -5,11 +5,18 @@ use Rattle.lms_ots.specs.declared.ots_type.OtsType.{OtsType}
 use Rattle.lms_ots.specs.declared.ots_type.OtsType.TheVariants.{W1, W2, W4, W8}
 use Rattle.lms_tree.specs.declared.height.Height.{Height}
 use Rattle.lms_tree.specs.declared.height.Height.TheVariants.{H5, H10, H15}
+use Rattle.cp_tool.specs.ClientWords.{CallWords, PutWords, GetWords, AcceptWords}
+use Rattle.cp_tool.specs.AuditWords.{AuditWords}
+use Rattle.cp_tool.specs.Numbers.{number_given}
 
 pub data Command : Type 0 where
   Judge : List ℕ → List ℕ → Command  -- the names of the key's and the evidence's file
   Verify : List ℕ → List ℕ → List ℕ → Command  -- of the key's, the text's and the signature's
   Keygen : List ℕ → Height → OtsType → List ℕ → Command  -- of the seed's file, and of the key's
+  AskPut : PutWords → Command
+  AskGet : GetWords → Command
+  Accept : AcceptWords → Command
+  Audit : AuditWords → Command
 
 infixl 10 ◌>>=◌
 abbrev pub ◌>>=◌ : {A B : Type 0} → Option A → (A → Option B) → Option B
@@ -63,6 +70,64 @@ keygen_of words = do
   out ← value_in options (codes "--out")
   Some (Keygen seed height ots out)
 
+-- a height and a width that must be given
+abbrev pub height_wanted : Option (List ℕ) → Option Height
+height_wanted None = None
+height_wanted (Some text) = height_named text
+
+abbrev pub width_wanted : Option (List ℕ) → Option OtsType
+width_wanted None = None
+width_wanted (Some text) = width_named text
+
+-- the numbers of a call: an epoch from 1 on, a client of 32 bits, and others of 64 bits
+unfoldable pub call_in : List (List ℕ) → Option CallWords
+call_in options = do
+  epoch ← number_given 1 18446744073709551615 (value_in options (codes "--epoch"))
+  block ← number_given 0 18446744073709551615 (value_in options (codes "--block"))
+  client ← number_given 0 4294967295 (value_in options (codes "--client"))
+  nonce ← number_given 0 18446744073709551615 (value_in options (codes "--nonce"))
+  Some (record { epoch = epoch; block = block; client = client; nonce = nonce })
+
+unfoldable pub ask_put_of : List (List ℕ) → Option Command
+ask_put_of words = do
+  options ← options_of (codes "--seed --height --width --store --epoch --block --client --nonce --version --content --out") words
+  seed ← value_in options (codes "--seed")
+  height ← height_wanted (value_in options (codes "--height"))
+  ots ← width_wanted (value_in options (codes "--width"))
+  store ← value_in options (codes "--store")
+  call ← call_in options
+  version ← number_given 0 18446744073709551615 (value_in options (codes "--version"))
+  content ← value_in options (codes "--content")
+  out ← value_in options (codes "--out")
+  Some (AskPut (record { seed = seed; height = height; ots = ots; store = store; call = call; version = version; content = content; out = out }))
+
+unfoldable pub ask_get_of : List (List ℕ) → Option Command
+ask_get_of words = do
+  options ← options_of (codes "--store --epoch --block --client --nonce --out") words
+  store ← value_in options (codes "--store")
+  call ← call_in options
+  out ← value_in options (codes "--out")
+  Some (AskGet (record { store = store; call = call; out = out }))
+
+unfoldable pub accept_words_of : List (List ℕ) → Option Command
+accept_words_of words = do
+  options ← options_of (codes "--store --request --reply --out --content") words
+  store ← value_in options (codes "--store")
+  request ← value_in options (codes "--request")
+  reply ← value_in options (codes "--reply")
+  out ← value_in options (codes "--out")
+  content ← value_in options (codes "--content")
+  Some (Accept (record { store = store; request = request; reply = reply; out = out; content = content }))
+
+unfoldable pub audit_of : List (List ℕ) → Option Command
+audit_of words = do
+  options ← options_of (codes "--key --epoch --handins --out") words
+  key ← value_in options (codes "--key")
+  epoch ← number_given 1 18446744073709551615 (value_in options (codes "--epoch"))
+  hand_ins ← value_in options (codes "--handins")
+  out ← value_in options (codes "--out")
+  Some (Audit (record { key = key; epoch = epoch; hand_ins = hand_ins; out = out }))
+
 -- the command that the words spell, if they are a command's
 unfoldable pub command_of : List (List ℕ) → Option Command
 command_of [] = None
@@ -70,4 +135,8 @@ command_of (name ∷ words) =
     if is_word name (codes "judge") then judge_of words
     else if is_word name (codes "verify") then verify_of words
     else if is_word name (codes "keygen") then keygen_of words
+    else if is_word name (codes "ask-put") then ask_put_of words
+    else if is_word name (codes "ask-get") then ask_get_of words
+    else if is_word name (codes "accept") then accept_words_of words
+    else if is_word name (codes "audit") then audit_of words
     else None

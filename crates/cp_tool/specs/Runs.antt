@@ -1,5 +1,5 @@
 -- How each command ends, over the files of its folder (this project's own).
-use Rattle.std.specs.Prelude.{ℕ, ◌≡◌, ◌≢◌, ◌⊎◌, Bool, false, List, length, take, drop, Option, Some, None, Result, Ok, Err, nat_lt, if◌then◌else◌, IsTrue}
+use Rattle.std.specs.Prelude.{ℕ, ◌≡◌, ◌⊎◌, false, List, length, take, drop, Option, Some, None, Result, Ok, Err, nat_lt, if◌then◌else◌, IsTrue}
 use Rattle.cp_bytes.specs.Fields.{◌>>=◌}
 use Rattle.cp_outside.specs.Causes.{Rose}
 use Rattle.lms_ots.specs.declared.ots_type.OtsType.{OtsType}
@@ -10,39 +10,11 @@ use Rattle.lms_tree.specs.Secret.{Secret, public_of}
 use Rattle.cp_evidence.specs.Conditions.{Convicts}
 use Rattle.cp_judge.specs.Judging.{judgement_of}
 use Rattle.cp_tool.specs.Commands.{Command}
-use Rattle.cp_tool.specs.Commands.Command.{Judge, Verify, Keygen}
-use Rattle.cp_tool.specs.Endings.{Outcome, usage, missing, too_long, short_seed, bad_key, judged, valid, invalid, made, fault, no_memory}
-
--- a folder, as its contract sees it
-pub record Files : Type 0 where
-  pub tells : Bool
-  pub file : List ℕ → Option (List ℕ)
-  pub faults : ℕ
-
--- the bytes of an input file of this name and limit, or how the command ends without them
-abbrev pub input_of : Option (List ℕ) → List ℕ → ℕ → Result (List ℕ) Outcome
-input_of None name limit = Err (missing name)
-input_of (Some bytes) name limit = if nat_lt limit (length bytes) then Err (too_long limit) else Ok bytes
-
--- a step that ends the command, or its last step
-abbrev pub ending_of : Result Outcome Outcome → Outcome
-ending_of (Ok ending) = ending
-ending_of (Err ending) = ending
-
--- a call of the folder failed, or memory was wanted
-abbrev pub Stops : ℕ → ℕ → Outcome → Type 0
-Stops before now ending = ((ending ≡ fault) × Rose before now) ⊎ (ending ≡ no_memory)
-
--- All files stay as they were, but for those of the name, if there is one.
-abbrev pub KeepsAll : Files → Files → Type 0
-KeepsAll old new = (name : List ℕ) → new.file name ≡ old.file name
-
-abbrev pub KeepsOthers : List ℕ → Files → Files → Type 0
-KeepsOthers out old new = (name : List ℕ) → name ≢ out → new.file name ≡ old.file name
-
--- what the folder gave as a file is the file, where it tells its files
-abbrev pub IsFile : Files → List ℕ → Option (List ℕ) → Type 0
-IsFile files name content = IsTrue files.tells → content ≡ files.file name
+use Rattle.cp_tool.specs.Commands.Command.{Judge, Verify, Keygen, AskPut, AskGet, Accept, Audit}
+use Rattle.cp_tool.specs.AuditRuns.{AuditEnds}
+use Rattle.cp_tool.specs.ClientRuns.{AskGetEnds, AcceptEnds}
+pub use Rattle.cp_tool.specs.Folders.{Files, input_of, ending_of, Stops, KeepsAll, KeepsOthers, IsFile}
+use Rattle.cp_tool.specs.Endings.{Outcome, usage, short_seed, bad_key, judged, valid, invalid, made, fault}
 
 -- ---- judge: a key of 56 bytes, evidence of at most 512 MiB
 
@@ -113,10 +85,14 @@ pub record KeygenEnds (seed : List ℕ) (height : Height) (ots : OtsType) (out :
   pub ends : KeyEnds (key_made seed_file seed height ots) out old new ending ⊎ (Stops old.faults new.faults ending × KeepsAll old new)
   pub others : KeepsOthers out old new
 
--- ---- all commands
+-- ---- all commands that take files alone
 
 abbrev pub RunEnds : Option Command → Files → Files → Outcome → Type 0
 RunEnds None old new ending = (ending ≡ usage) × KeepsAll old new
 RunEnds (Some (Judge key evidence)) old new ending = JudgeEnds key evidence old new ending
 RunEnds (Some (Verify key text signature)) old new ending = VerifyEnds key text signature old new ending
 RunEnds (Some (Keygen seed height ots out)) old new ending = KeygenEnds seed height ots out old new ending
+RunEnds (Some (AskPut words)) old new ending = ⊥  -- it takes the vault's disk too, as `CommandEnds` says
+RunEnds (Some (AskGet words)) old new ending = AskGetEnds words old new ending
+RunEnds (Some (Accept words)) old new ending = AcceptEnds words old new ending
+RunEnds (Some (Audit words)) old new ending = AuditEnds words old new ending

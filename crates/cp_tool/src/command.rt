@@ -4,6 +4,10 @@ ghost use Rattle.std.specs.Option.{option_map};
 ghost use Rattle.cp_tool.specs.View.{command_view};
 ghost use Rattle.cp_tool.specs.Commands.{command_of, judge_of, verify_of, keygen_of, height_named, width_named, height_given, width_given, is_word};
 
+use crate::audit_words::{AuditWords, audit_words};
+use crate::client_words::{
+    AcceptWords, GetWords, PutWords, accept_words, ask_get_words, ask_put_words,
+};
 use cp_words::Pairs;
 use lms_ots::OtsType;
 use lms_tree::Height;
@@ -29,6 +33,14 @@ pub enum Command<'a> {
         ots: OtsType,
         out: &'a str,
     },
+    /// `ask-put`: writes a put body, signed by the next leaf of the vault.
+    AskPut(PutWords<'a>),
+    /// `ask-get`: writes a get request.
+    AskGet(GetWords<'a>),
+    /// `accept`: judges what the store answered, and keeps its envelope and content.
+    Accept(AcceptWords<'a>),
+    /// `audit`: whether an epoch is clean; writes evidence where the store is guilty.
+    Audit(AuditWords<'a>),
 }
 
 fn is_word(word: &str, name: &str) -> bool
@@ -79,7 +91,7 @@ fn verify<'a>(options: &'a [String]) -> Option<Command<'a>>
 }
 
 // The height of this name.
-fn height_named(text: &str) -> Option<Height>
+pub(crate) fn height_named(text: &str) -> Option<Height>
     ensures { result ≡ height_named text.now }
 {
     if is_word(text, "5") {
@@ -94,7 +106,7 @@ fn height_named(text: &str) -> Option<Height>
 }
 
 // The width of this name.
-fn width_named(text: &str) -> Option<OtsType>
+pub(crate) fn width_named(text: &str) -> Option<OtsType>
     ensures { result ≡ width_named text.now }
 {
     if is_word(text, "1") {
@@ -176,6 +188,14 @@ impl<'a> Command<'a> {
             verify(options)
         } else if is_word(name, "keygen") {
             keygen(options)
+        } else if is_word(name, "ask-put") {
+            ask_put_words(options)
+        } else if is_word(name, "ask-get") {
+            ask_get_words(options)
+        } else if is_word(name, "accept") {
+            accept_words(options)
+        } else if is_word(name, "audit") {
+            audit_words(options)
         } else {
             None
         }

@@ -1,6 +1,8 @@
 //! How a command ends: its status and its printed line.
 ghost use Rattle.std.specs.Prelude.{◌≡◌};
 
+use crate::audit_ending::AuditEnding;
+use crate::client_ending::ClientEnding;
 use cp_judge::Judgement;
 
 /// How a command ends.
@@ -24,7 +26,11 @@ pub enum Ending<'a> {
     Invalid,
     /// `keygen`: the public key that was written: status 0.
     Key([u8; 56]),
-    /// A call of the folder failed: status 4.
+    /// How a command of the client ended: status 0 or 3.
+    Client(ClientEnding),
+    /// How `audit` ended: status 0, 1 or 3.
+    Audited(AuditEnding),
+    /// A call of the folder or the vault's disk failed: status 4.
     Fault,
     /// Memory was wanted: status 5.
     NoMemory,
@@ -47,6 +53,8 @@ impl<'a> Ending<'a> {
             | Ending::ShortSeed
             | Ending::BadKey
             | Ending::Judged(Judgement::BadKey) => 3,
+            Ending::Client(ending) => ending.status(),
+            Ending::Audited(ending) => ending.status(),
             Ending::Fault => 4,
             Ending::NoMemory => 5,
         }

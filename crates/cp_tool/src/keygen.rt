@@ -14,7 +14,7 @@ use std::alloc::Global;
 use std::thread::{Threads, available_parallelism};
 
 /// The bytes of a seed file: SEED of 32 bytes and I of 16.
-const SEED_LENGTH: u64 = 48;
+pub(crate) const SEED_LENGTH: u64 = 48;
 
 /// The most threads that make a key.
 const MOST_WORKERS: usize = 64;
@@ -23,7 +23,7 @@ const MOST_WORKERS: usize = 64;
 const USUAL_WORKERS: usize = 4;
 
 // As many threads as there are processors.
-fn workers<R: Threads>(rt: &R) -> usize
+pub(crate) fn workers<R: Threads>(rt: &R) -> usize
     ensures { 0 < result }
 {
     match available_parallelism(rt) {
@@ -33,7 +33,7 @@ fn workers<R: Threads>(rt: &R) -> usize
 }
 
 // The part of a seed file from `at` on.
-fn part<const N: usize>(bytes: &[u8], at: usize) -> [u8; N]
+pub(crate) fn part<const N: usize>(bytes: &[u8], at: usize) -> [u8; N]
     requires { at + N ≤ length bytes.now }
     ensures { result ≡ take N (drop at bytes.now) }
 {

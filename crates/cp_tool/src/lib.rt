@@ -1,18 +1,40 @@
-//! The commands of the program `cloudproof`, over any folder and sink.
+//! The commands of the program `cloudproof`, over any folder, vault's disk and sink.
 #![tactic(auto)]
 
+mod accepting;
+mod asking;
+mod audit_ending;
+mod audit_printing;
+mod audit_sources;
+mod audit_words;
+mod auditing;
+mod client_ending;
+mod client_printing;
+mod client_words;
 mod command;
+mod drawing;
 mod ending;
+mod epoch_part;
+mod guilt;
 mod inputs;
 mod judging;
 mod keygen;
 mod printing;
 mod running;
+mod three_inputs;
 mod verifying;
 
+pub use audit_ending::AuditEnding;
+pub use audit_words::AuditWords;
+pub use client_ending::ClientEnding;
+pub use client_words::{AcceptWords, CallWords, GetWords, PutWords};
 pub use command::Command;
 pub use ending::Ending;
+pub use epoch_part::EpochPart;
+pub use guilt::Guilt;
 pub use running::run;
 
+#[cfg(test)]
+mod client_tests;
 #[cfg(test)]
 mod tests;

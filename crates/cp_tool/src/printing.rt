@@ -5,6 +5,8 @@ ghost use Rattle.cp_tool.specs.Endings.{line_of, judged};
 ghost use Rattle.cp_tool.specs.Reports.{Puts, Reports};
 ghost use Rattle.cp_tool.specs.View.{ending_view};
 
+use crate::audit_printing::put_audit_ending;
+use crate::client_printing::put_client_ending;
 use crate::ending::Ending;
 use cp_bytes::put;
 use cp_judge::Judgement;
@@ -12,7 +14,7 @@ use cp_outside::{Failed, Sink, put_all};
 use itoa::Buffer;
 
 // Room for the digits of a key.
-const ROOM: usize = 112;
+pub(crate) const ROOM: usize = 112;
 
 // The number's decimal digits.
 fn digits(buffer: &mut [u8; ROOM], number: u64) -> &[u8]
@@ -40,7 +42,7 @@ fn two_numbers(buffer: &mut [u8; ROOM], first: u8, second: u8) -> &[u8]
 }
 
 // Writes all of a piece.
-fn put_piece<S: Sink>(out: &mut S, piece: &[u8]) -> Result<(), Failed>
+pub(crate) fn put_piece<S: Sink>(out: &mut S, piece: &[u8]) -> Result<(), Failed>
     ensures { Puts (S.held out.old) (S.held out.new) (S.write_faults out.old) (S.write_faults out.new) result piece.now }
 {
     put_all(out, piece)
@@ -48,7 +50,7 @@ fn put_piece<S: Sink>(out: &mut S, piece: &[u8]) -> Result<(), Failed>
 
 // Writes two pieces, one after the other.
 #[tactic(auto, using(crate::proofs::Pieces::pieces))]
-fn put_both<S: Sink>(out: &mut S, first: &[u8], second: &[u8]) -> Result<(), Failed>
+pub(crate) fn put_both<S: Sink>(out: &mut S, first: &[u8], second: &[u8]) -> Result<(), Failed>
     ensures { Puts (S.held out.old) (S.held out.new) (S.write_faults out.old) (S.write_faults out.new) result (first.now ++ second.now) }
 {
     match put_piece(out, first) {
@@ -59,7 +61,7 @@ fn put_both<S: Sink>(out: &mut S, first: &[u8], second: &[u8]) -> Result<(), Fai
 
 // Writes a text of two pieces and the end of its line.
 #[tactic(auto, using(crate::proofs::Pieces::pieces))]
-fn put_line<S: Sink>(out: &mut S, front: &[u8], back: &[u8]) -> Result<(), Failed>
+pub(crate) fn put_line<S: Sink>(out: &mut S, front: &[u8], back: &[u8]) -> Result<(), Failed>
     ensures { Puts (S.held out.old) (S.held out.new) (S.write_faults out.old) (S.write_faults out.new) result (front.now ++ back.now ++ codes "\n") }
 {
     match put_both(out, front, back) {
@@ -69,7 +71,7 @@ fn put_line<S: Sink>(out: &mut S, front: &[u8], back: &[u8]) -> Result<(), Faile
 }
 
 // Writes the line of a label and a number.
-fn put_number<S: Sink>(out: &mut S, label: &[u8], number: u64) -> Result<(), Failed>
+pub(crate) fn put_number<S: Sink>(out: &mut S, label: &[u8], number: u64) -> Result<(), Failed>
     ensures { Puts (S.held out.old) (S.held out.new) (S.write_faults out.old) (S.write_faults out.new) result (label.now ++ decimal number ++ codes "\n") }
 {
     let mut buffer = [0u8; ROOM];
@@ -119,6 +121,8 @@ fn put_ending<S: Sink>(out: &mut S, ending: &Ending) -> Result<(), Failed>
         Ending::TooLong { limit } => return put_number(out, b"too long ", *limit),
         Ending::Judged(judgement) => return put_judgement(out, *judgement),
         Ending::Key(key) => return put_key(out, key),
+        Ending::Client(ending) => return put_client_ending(out, ending),
+        Ending::Audited(ending) => return put_audit_ending(out, ending),
         Ending::Usage => b"usage",
         Ending::ShortSeed => b"short seed",
         Ending::BadKey => b"bad key",

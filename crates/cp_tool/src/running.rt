@@ -1,33 +1,41 @@
-//! The commands of the program, over any folder and sink.
-ghost use Rattle.std.specs.Prelude.{◌≡◌, ◌⊎◌, ◌≤◌, ℕ, List, Some, None, map, string_bytes, length, IsTrue};
+//! The commands of the program, over any folder, vault's disk and sink.
+ghost use Rattle.std.specs.Prelude.{◌≡◌, ◌⊎◌, ◌≤◌, ℕ, List, Some, None, Ok, map, string_bytes, length, IsTrue};
 ghost use Rattle.cp_outside.specs.Causes.{Rose};
+ghost use Rattle.cp_tool.specs.AuditRuns.{Sources, files_in, sources_of};
+ghost use Rattle.cp_tool.specs.AuditStatus.{AuditStatus};
+ghost use Rattle.cp_tool.specs.AuditWords.{AuditWords};
 ghost use Rattle.cp_tool.specs.Commands.{command_of};
-ghost use Rattle.cp_tool.specs.Commands.Command.{Judge};
+ghost use Rattle.cp_tool.specs.Commands.Command.{Audit, Judge};
 ghost use Rattle.cp_tool.specs.Endings.{Outcome};
+ghost use Rattle.cp_tool.specs.PutRuns.{CommandEnds, IsAskPut};
 ghost use Rattle.cp_tool.specs.Reports.{Reports};
-ghost use Rattle.cp_tool.specs.Runs.{RunEnds, Files, JudgeStatus};
+ghost use Rattle.cp_tool.specs.Runs.{Files, JudgeStatus};
 ghost use Rattle.cp_tool.specs.View.{ending_view};
 
+use crate::accepting::run_accept;
+use crate::asking::{run_ask_get, run_ask_put};
+use crate::auditing::run_audit;
 use crate::command::Command;
 use crate::ending::Ending;
 use crate::judging::run_judge;
 use crate::keygen::run_keygen;
 use crate::printing::report;
 use crate::verifying::run_verify;
-use cp_outside::{Folder, Sink};
+use cp_outside::{Disk, Folder, Sink};
 use std::alloc::Global;
 use std::thread::Threads;
 
 // Does what the words say, up to the printed line.
-fn done<'a, R: Threads + Sync, F: Folder>(
+fn done<'a, R: Threads + Sync, F: Folder, K: Disk>(
     rt: &R,
     alloc: Global,
     words: &'a [String],
     files: &mut F,
+    vault: &mut K,
 ) -> Ending<'a>
-    ensures { RunEnds (command_of (map string_bytes words.entry.now))
+    ensures { CommandEnds K.Disk (command_of (map string_bytes words.entry.now))
         (record { tells = F.tells files.old; file = F.file files.old; faults = F.faults files.old })
-        (record { tells = F.tells files.new; file = F.file files.new; faults = F.faults files.new }) (ending_view result) }
+        (record { tells = F.tells files.new; file = F.file files.new; faults = F.faults files.new }) vault.old vault.new (ending_view result) }
 {
     match Command::read(words) {
         None => Ending::Usage,
@@ -47,30 +55,39 @@ fn done<'a, R: Threads + Sync, F: Folder>(
                 out,
             },
         ) => run_keygen(rt, alloc, files, seed, height, ots, out),
+        Some(Command::AskPut(words)) => run_ask_put(rt, alloc, files, vault, words),
+        Some(Command::AskGet(words)) => run_ask_get(alloc, files, words),
+        Some(Command::Accept(words)) => run_accept(alloc, files, words),
+        Some(Command::Audit(words)) => run_audit(alloc, files, words),
     }
 }
 
 /// Does what the words after the program's name say: reads the command's files in the folder, writes
 /// what it makes there, prints its line to `out`, and answers its status: 0 done or yes, 1 no, 2 the
-/// words are no command's, 3 a refused input, 4 a fault of the folder or the sink, 5 want of memory.
+/// words are no command's, 3 a refused input, 4 a fault of the folder, the disk or the sink, 5 want of
+/// memory. `vault` is the disk of the vault of the client's own key, which `ask-put` alone touches.
 /// Every command returns.
 #[tactic(auto, using(crate::proofs::StatusLemmas::statuses))]
-pub fn run<R: Threads + Sync, F: Folder, S: Sink>(
+pub fn run<R: Threads + Sync, F: Folder, K: Disk, S: Sink>(
     rt: &R,
     alloc: Global,
     words: &[String],
     files: &mut F,
+    vault: &mut K,
     out: &mut S,
 ) -> u8
     // How the command ended, its printed line, and its status.
-    ensures ends { (ending : Outcome) × RunEnds (command_of (map string_bytes words.now))
+    ensures ends { (ending : Outcome) × CommandEnds K.Disk (command_of (map string_bytes words.now))
         (record { tells = F.tells files.old; file = F.file files.old; faults = F.faults files.old })
-        (record { tells = F.tells files.new; file = F.file files.new; faults = F.faults files.new }) ending
+        (record { tells = F.tells files.new; file = F.file files.new; faults = F.faults files.new }) vault.old vault.new ending
         × Reports (S.held out.old) (S.held out.new) (S.write_faults out.old) (S.write_faults out.new) ending result }
 
     // 2 comes exactly where the words are no command's, unless the line can't be written.
     ensures usage { result ≡ 2 → command_of (map string_bytes words.now) ≡ None }
     ensures no_command { command_of (map string_bytes words.now) ≡ None → (result ≡ 2) ⊎ ((result ≡ 4) × Rose (S.write_faults out.old) (S.write_faults out.new)) }
+
+    // No command but `ask-put` touches the vault's disk.
+    ensures untouched { IsAskPut (command_of (map string_bytes words.now)) ⊎ (vault.new ≡ vault.old) }
 
     // `judge` over files that are told and within their limits: 0 comes exactly where the evidence
     // convicts, and 1 only where the key reads and it doesn't.
@@ -79,9 +96,16 @@ pub fn run<R: Threads + Sync, F: Folder, S: Sink>(
         → F.file files.old evidence ≡ Some evidence_bytes → length evidence_bytes ≤ 536870912
         → JudgeStatus key_bytes evidence_bytes result }
 
+    // `audit` over files that are told and within their limits: 0 comes exactly where the material is
+    // given, the hand-ins read and the epoch is clean, as it is of an honest store, and 1 exactly where
+    // they are given and read and it isn't; then the evidence that was written convicts.
+    ensures audit { (wanted : AuditWords) (sources : Sources) → command_of (map string_bytes words.now) ≡ Some (Audit wanted) → IsTrue (F.tells files.old)
+        → sources_of wanted (files_in (F.file files.old) wanted) ≡ Ok sources
+        → AuditStatus sources (F.file files.new wanted.out) result }
+
     // 4 comes only where a count rose.
-    ensures fault { result ≡ 4 → Rose (F.faults files.old) (F.faults files.new) ⊎ Rose (S.write_faults out.old) (S.write_faults out.new) }
+    ensures fault { result ≡ 4 → Rose (F.faults files.old) (F.faults files.new) ⊎ Rose (K.faults vault.old) (K.faults vault.new) ⊎ Rose (S.write_faults out.old) (S.write_faults out.new) }
 {
-    let ending = done(rt, alloc, words, files);
+    let ending = done(rt, alloc, words, files, vault);
     report(out, &ending)
 }

@@ -3,7 +3,7 @@
 ghost use Rattle.std.specs.Prelude.{◌≡◌, ◌<◌, ◌≤◌, length};
 
 use crate::run;
-use cp_outside::{Folder, MemFolder, VecSink};
+use cp_outside::{Folder, MemDisk, MemFolder, VecSink};
 use lms_ots::OtsType;
 use lms_tree::{Height, PrivateKey};
 use std::alloc::Global;
@@ -12,12 +12,12 @@ use std::test::Fail;
 use std::thread::Threads;
 
 // The length of a signature of height 5 and width 8.
-const SIGNATURE: usize = 1292;
+pub(crate) const SIGNATURE: usize = 1292;
 
 const ROOM: u64 = 0x10_0000;
 
 // A folder with no file.
-fn folder(alloc: Global, failing: Vec<u64>) -> Result<MemFolder, Fail> {
+pub(crate) fn folder(alloc: Global, failing: Vec<u64>) -> Result<MemFolder, Fail> {
     Ok(MemFolder::new(alloc, ROOM, failing)?)
 }
 
@@ -39,19 +39,38 @@ fn ends<R: Threads + Sync>(
     status: u8,
     text: &[u8],
 ) -> Result<bool, Fail> {
+    let mut vault = disk(alloc)?;
+    ends_with_vault(rt, alloc, files, &mut vault, line, status, text)
+}
+
+// A disk with nothing on it.
+pub(crate) fn disk(alloc: Global) -> Result<MemDisk, Fail> {
+    Ok(MemDisk::new(alloc, 1 << 16, Vec::new(alloc))?)
+}
+
+// Whether the command ends so over this vault's disk.
+pub(crate) fn ends_with_vault<R: Threads + Sync>(
+    rt: &R,
+    alloc: Global,
+    files: &mut MemFolder,
+    vault: &mut MemDisk,
+    line: &str,
+    status: u8,
+    text: &[u8],
+) -> Result<bool, Fail> {
     let words = words_of(alloc, line)?;
     let mut out = VecSink::new(alloc, ROOM, Vec::new(alloc))?;
-    let answer = run(rt, alloc, words.as_slice(), files, &mut out);
+    let answer = run(rt, alloc, words.as_slice(), files, vault, &mut out);
     Ok(answer == status && out.bytes() == text)
 }
 
 // The key of a seed of zeros, of height 5 and width 8.
-fn small_key<R: Threads + Sync>(rt: &R, alloc: Global) -> Result<PrivateKey, Fail> {
+pub(crate) fn small_key<R: Threads + Sync>(rt: &R, alloc: Global) -> Result<PrivateKey, Fail> {
     Ok(PrivateKey::make_by(rt, alloc, 4, [0; 32], [0; 16], Height::H5, OtsType::W8)?)
 }
 
 // Appends a part: its length and its bytes.
-fn push_part(bytes: &mut Vec<u8>, part: &[u8]) -> Result<(), Fail> {
+pub(crate) fn push_part(bytes: &mut Vec<u8>, part: &[u8]) -> Result<(), Fail> {
     let length = u32::try_from(part.len()).unwrap_or(0);
     bytes.extend_from_slice(&length.to_be_bytes())?;
     bytes.extend_from_slice(part)?;
@@ -59,7 +78,12 @@ fn push_part(bytes: &mut Vec<u8>, part: &[u8]) -> Result<(), Fail> {
 }
 
 // A signature of the text by the leaf; nothing where the key is another.
-fn signed(alloc: Global, key: &PrivateKey, leaf: u32, text: &[u8]) -> Result<Vec<u8>, Fail> {
+pub(crate) fn signed(
+    alloc: Global,
+    key: &PrivateKey,
+    leaf: u32,
+    text: &[u8],
+) -> Result<Vec<u8>, Fail> {
     let mut signature = vec![in alloc; 0u8; SIGNATURE]?;
     if leaf < key.leaves() && key.sig_len() == SIGNATURE {
         key.sign_into(leaf, text, signature.as_mut_slice());
@@ -85,7 +109,7 @@ fn evidence(
 }
 
 // Writes the file.
-fn put_file(rt: &impl Abort, files: &mut MemFolder, name: &str, bytes: &[u8]) {
+pub(crate) fn put_file(rt: &impl Abort, files: &mut MemFolder, name: &str, bytes: &[u8]) {
     assert!(rt; files.write(name, bytes).is_ok());
 }
 
@@ -293,7 +317,18 @@ fn ends_with_4_where_the_sink_fails(rt: HostRuntime) -> Result<(), Fail> {
     let mut files = folder(alloc, Vec::new(alloc))?;
     let words = words_of(alloc, "judge --key key")?;
     let mut out = VecSink::new(alloc, ROOM, Vec::from_slice(alloc, &[0])?)?;
-    assert_eq!(rt; run(&rt, alloc, words.as_slice(), &mut files, &mut out), 4);
+    let mut vault = disk(alloc)?;
+    assert_eq!(rt;
+        run(
+            &rt,
+            alloc,
+            words.as_slice(),
+            &mut files,
+            &mut vault,
+            &mut out
+        ),
+        4
+    );
     assert_eq!(rt; out.bytes().len(), 0);
     Ok(())
 }

@@ -1,0 +1,48 @@
+-- What the status of `audit` says (this project's own).
+use Rattle.std.specs.Prelude.{ℕ, ◌≡◌, ◌⊎◌, List, Option, Some, Ok}
+use Rattle.sha2.specs.Sha256.{sha256}
+use Rattle.cp_bytes.specs.Hashes.{CollisionFree}
+use Rattle.cp_statements.specs.Envelope.{Envelope}
+use Rattle.cp_core.specs.Store.{Store}
+use Rattle.cp_core.specs.Honest.{Honest}
+use Rattle.cp_core.specs.declared.chronicle.Chronicle.{Chronicle}
+use Rattle.cp_evidence.specs.Conditions.{Convicts}
+use Rattle.cp_evidence.specs.HandIns.{hand_ins_of}
+use Rattle.cp_evidence.specs.Material.{GivenEpoch, given_of}
+use Rattle.cp_evidence.specs.Sound.{Clean}
+use Rattle.cp_guilt.specs.HonestAudit.{AuditedOrHashed, HolderSignedAll}
+use Rattle.cp_tool.specs.AuditRuns.{Sources}
+
+-- the material is given, and the hand-ins read
+pub record Readable (sources : Sources) : Type 0 where
+  pub epoch : GivenEpoch
+  pub hand_ins : List Envelope
+  pub given : given_of sources.material ≡ Ok epoch
+  pub read : hand_ins_of sources.hand_ins ≡ Ok hand_ins
+
+-- the status is this one, or a call failed, or memory was wanted
+abbrev pub Unless : ℕ → ℕ → Type 0
+Unless status wanted = (status ≡ wanted) ⊎ ((status ≡ 4) ⊎ (status ≡ 5))
+
+-- the texts are those of an honest store's life, signed by the holder of the key alone, and no two
+-- different texts among those that the audit hashes and those of the life have one digest
+pub record IsHonest (sources : Sources) (x : Readable sources) : Type 0 where
+  pub store : Store
+  pub life : Chronicle
+  pub id : store.id ≡ sha256 sources.material.key
+  pub honest : Honest store life
+  pub signed : HolderSignedAll store life sources.material.key x.epoch x.hand_ins
+  pub apart : CollisionFree (AuditedOrHashed life x.epoch x.hand_ins)
+
+-- What the status says of files that were within their limits, beside the file that evidence is written
+-- to. 0 comes exactly where the material is given, the hand-ins read and the epoch is clean, and 1
+-- exactly where they are given and read and it is not; then the evidence that was written convicts. Of an
+-- honest store 0 comes.
+pub record AuditStatus (sources : Sources) (written : Option (List ℕ)) (status : ℕ) : Type 0 where
+  pub clean : status ≡ 0 → (x : Readable sources) × Clean x.epoch x.hand_ins
+  pub guilty : status ≡ 1 → (x : Readable sources) × ¬ Clean x.epoch x.hand_ins
+  pub evidence : status ≡ 1 → (bytes : List ℕ) × (written ≡ Some bytes) × Convicts sources.material.key bytes
+  pub refused : status ≡ 3 → ¬ Readable sources
+  pub where_clean : (x : Readable sources) → Clean x.epoch x.hand_ins → Unless status 0
+  pub where_guilty : (x : Readable sources) → ¬ Clean x.epoch x.hand_ins → Unless status 1
+  pub where_honest : (x : Readable sources) → IsHonest sources x → Unless status 0

@@ -1,0 +1,91 @@
+-- What the steps of the client's commands give.
+use Rattle.std.specs.Prelude.{ℕ, ◌≡◌, ◌≢◌, ◌⊎◌, ◌+◌, ◌≤◌, ◌<◌, Bool, false, List, length, Option, Some, Result, Ok, Err, IfOk, IfErr, IsErr, IsTrue, nat_lt}
+use Rattle.sha2.specs.Sha256.{sha256}
+use Rattle.cp_outside.specs.Causes.{Rose}
+use Rattle.cp_outside.specs.declared.disk.Disk as disk
+use Rattle.key_vault.specs.Slots.{opening}
+use Rattle.key_vault.specs.Vaults.{file_number}
+use Rattle.key_vault.specs.declared.file.VaultFile.{VaultFile}
+use Rattle.lms_tree.specs.PublicKey.{key_reads}
+use Rattle.cp_client.specs.Accepting as accepting
+use Rattle.cp_client.specs.View.{accepted_view}
+use Rattle.cp_client.specs.declared.accepted.Accepted.{Accepted}
+use Rattle.cp_tool.specs.ClientWords.{PutWords, AcceptWords}
+use Rattle.cp_tool.specs.ClientEndings.{accepted}
+use Rattle.cp_tool.specs.ClientRuns as runs
+use Rattle.cp_tool.specs.ClientRuns.{three_of}
+use Rattle.cp_tool.specs.Endings.{Outcome, fault}
+use Rattle.cp_tool.specs.Folders.{Files, Stops, IsFile}
+use Rattle.cp_tool.specs.PutRuns.{number_before, put_parts, IsVaultRefusal}
+use Rattle.cp_tool.specs.View.{ending_view}
+use Rattle.cp_tool.specs.declared.drawing.DrawnLeaf.{DrawnLeaf}
+use Rattle.cp_tool.specs.declared.ending.Ending.{Ending}
+use Rattle.cp_tool.specs.declared.three_inputs.Input.{Input}
+use Rattle.cp_tool.specs.declared.three_inputs.ThreeFiles.{ThreeFiles}
+
+-- ---- three files
+
+abbrev pub input_view : Input → runs.Input
+input_view input = record { name = input.name.now; limit = input.limit }
+
+abbrev pub three_view : ThreeFiles → runs.Three
+three_view files = record { first = files.first.items; second = files.second.items; third = files.third.items }
+
+abbrev pub GivesThree : Result runs.Three Outcome → ℕ → ℕ → Result ThreeFiles Ending → Type 0
+GivesThree three before now (Ok files) = three ≡ Ok (three_view files)
+GivesThree three before now (Err ending) = (three ≡ Err (ending_view ending)) ⊎ Stops before now (ending_view ending)
+
+-- some contents were read, which are the files' where the folder tells its files
+pub record ReadsThree (a b c : runs.Input) (old new : Files) (result : Result ThreeFiles Ending) : Type 0 where
+  pub first_file : Option (List ℕ)
+  pub second_file : Option (List ℕ)
+  pub third_file : Option (List ℕ)
+  pub first_is : IsFile old a.name first_file
+  pub second_is : IsFile old b.name second_file
+  pub third_is : IsFile old c.name third_file
+  pub gives : GivesThree (three_of first_file a second_file b third_file c) old.faults new.faults result
+  pub later : old.faults ≤ new.faults
+
+-- ---- ask-put
+
+-- the store's id, where the seed has its length and the store's key reads, or the refusal
+abbrev pub JudgesPut : runs.Three → Result (List ℕ) Ending → Type 0
+JudgesPut files (Ok store) = (48 ≤ length files.first) × IsTrue (key_reads files.second) × (store ≡ sha256 files.second)
+JudgesPut files (Err ending) = (words : PutWords) → put_parts words files ≡ Err (ending_view ending)
+
+-- the reserved number of a vault that was opened, and the leaf that was drawn
+abbrev pub number_answer : Result VaultFile Ending → Result ℕ Outcome
+number_answer (Ok file) = Ok (file_number file)
+number_answer (Err ending) = Err (ending_view ending)
+
+abbrev pub leaf_answer : Result DrawnLeaf Ending → Result ℕ Outcome
+leaf_answer (Ok drawn) = Ok drawn.leaf
+leaf_answer (Err ending) = Err (ending_view ending)
+
+module _ {K : Type 0} (g : disk.Ghosts K) where
+  -- The vault's number was read, or a blank vault was made. Where the vault is refused, and where it is
+  -- not blank, the disk's bytes stay.
+  pub record OpensVault (id : List ℕ) (leaves : ℕ) (old new : K) (answer : Result ℕ Outcome) : Type 0 where
+    pub number : IsTrue (g.tells old) → (answer ≡ number_before (opening id leaves (g.seen old))) ⊎ (answer ≡ Err fault)
+    pub within : IfOk answer (λ n. n ≤ leaves)
+    pub why : IfErr answer IsVaultRefusal
+    pub refused : IsTrue (g.tells old) → IsErr (number_before (opening id leaves (g.seen old))) → g.seen new ≡ g.seen old
+    pub full : IsTrue (g.tells old) → (n : ℕ) → 0 < n → number_before (opening id leaves (g.seen old)) ≡ Ok n → g.seen new ≡ g.seen old
+    pub tells : g.tells new ≡ g.tells old
+    pub never_falls : g.faults old ≤ g.faults new
+    pub failed : answer ≡ Err fault → Rose (g.faults old) (g.faults new)
+
+-- ---- accept
+
+abbrev pub GivesAccepted : Result Accepted Ending → Result accepting.Accepted Outcome → Type 0
+GivesAccepted (Ok x) answer = answer ≡ Ok (accepted_view x)
+GivesAccepted (Err ending) answer = answer ≡ Err (ending_view ending)
+
+-- Both files were written, the content over the envelope where both have one name; or a write failed.
+pub record WritesBoth (words : AcceptWords) (envelope content : List ℕ) (new : Files) : Type 0 where
+  pub envelope_is : words.out ≢ words.content → new.file words.out ≡ Some envelope
+  pub content_is : new.file words.content ≡ Some content
+
+abbrev pub WritesEnds : AcceptWords → List ℕ → accepting.Accepted → Files → Files → Outcome → Type 0
+WritesEnds words envelope x old new ending =
+    ((ending ≡ accepted x.attestation) × (IsTrue old.tells → WritesBoth words envelope x.content new)) ⊎ ((ending ≡ fault) × Rose old.faults new.faults)
