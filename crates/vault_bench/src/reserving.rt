@@ -1,6 +1,6 @@
 //! Making a vault, and reserving leaves one by one.
 use cp_outside::Disk;
-use key_vault::{LoadFault, Refused, Vault};
+use key_vault::{LoadFault, Vault, VaultFile};
 
 const ID: [u8; 32] = [7; 32];
 
@@ -9,16 +9,13 @@ const LEAVES: u64 = 1 << 40;
 
 /// The vault of a key on a blank disk. Nothing where the disk holds more, or fails.
 pub fn format_blank<K: Disk>(disk: &mut K) -> Option<Vault<'_, K>> {
-    let Err(
-        Refused {
-            disk,
-            why: LoadFault::Blank { .. },
-        },
-    ) = Vault::load(disk, ID, LEAVES)
-    else {
+    let Err(LoadFault::Blank { .. }) = VaultFile::load(disk, ID, LEAVES) else {
         return None;
     };
-    Vault::format(disk, ID, LEAVES).ok()
+    match Vault::format(disk, ID, LEAVES) {
+        Ok(vault) => Some(vault),
+        Err(_) => None,
+    }
 }
 
 /// The vault after so many reservations of one leaf. Nothing where the disk fails.
