@@ -20,8 +20,9 @@ use Rattle.cp_tool.specs.ClientEndings.{refused}
 use Rattle.cp_tool.specs.ClientRuns.{Three, Input, three_of, key_in, get_asked, GetEnds, asked_or_refused, accepted_or_refused, acceptance_of, accept_inputs, AcceptanceEnds}
 use Rattle.cp_tool.specs.ClientWords.{PutWords, GetWords, AcceptWords}
 use Rattle.cp_tool.specs.Commands.{Command}
-use Rattle.cp_tool.specs.Commands.Command.{Judge, Verify, Keygen, AskPut, AskGet, Accept, Audit}
+use Rattle.cp_tool.specs.Commands.Command.{Judge, Verify, Keygen, AskPut, AskGet, Accept, Audit, Replay}
 use Rattle.cp_tool.proofs.AuditRefusals.{audit_4}
+use Rattle.cp_tool.proofs.ReplayRefusals.{replay_4}
 use Rattle.cp_tool.specs.Endings.{Outcome, judged, short_seed, fault}
 use Rattle.cp_tool.specs.PutRuns.{PutParts, put_parts, put_inputs, LeafEnds, PutEnds, AskPutEnds, CommandEnds, IsVaultRefusal}
 use Rattle.cp_tool.specs.Runs.{Files, input_of, ending_of, Stops, KeepsAll, judge_ending, verify_ending, verified, KeyEnds, key_made, secret_in, RunEnds}
@@ -169,6 +170,7 @@ run_4 (Some (Accept words)) old new ending ends e =
     ends_4 _ _ ending (acceptance_4 words (accept_inputs words ends.store_file ends.request_file ends.reply_file >>= acceptance_of) old new ending
     (step (accept_inputs words ends.store_file ends.request_file ends.reply_file) acceptance_of (three_well ends.store_file _ ends.request_file _ ends.reply_file _) acceptance_well)) ends.ends e
 run_4 (Some (Audit words)) old new ending ends e = audit_4 words old new ending ends e
+run_4 (Some (Replay words)) old new ending ends e = replay_4 words old new ending ends e
 
 -- ---- ask-put
 
@@ -222,3 +224,4 @@ module _ {K : Type 0} (g : disk.Ghosts K) where
   command_4 (Some (AskGet words)) old new before after ending ends e = inl (run_4 (Some (AskGet words)) old new ending ends.0 e)
   command_4 (Some (Accept words)) old new before after ending ends e = inl (run_4 (Some (Accept words)) old new ending ends.0 e)
   command_4 (Some (Audit words)) old new before after ending ends e = inl (run_4 (Some (Audit words)) old new ending ends.0 e)
+  command_4 (Some (Replay words)) old new before after ending ends e = inl (run_4 (Some (Replay words)) old new ending ends.0 e)

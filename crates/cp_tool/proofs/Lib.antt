@@ -9,5 +9,8 @@ pub mod FaultLemmas
 pub mod InputLemmas
 pub mod NumberLemmas
 pub mod Pieces
+pub mod ReplayLemmas
+pub mod ReplayRefusals
 pub mod SourceLemmas
 pub mod StatusLemmas
+pub mod WriteLemmas

@@ -17,11 +17,12 @@ use Rattle.cp_judge.specs.declared.judgement.Judgement.{Judgement}
 use Rattle.cp_judge.specs.declared.judgement.Judgement.TheVariants.{BadKey, Malformed, NotEvidence, Guilty}
 use Rattle.cp_judge.proofs.Guilt.{guilty}
 use Rattle.cp_tool.specs.Commands.{Command}
-use Rattle.cp_tool.specs.Commands.Command.{Judge, Verify, Keygen, AskPut, AskGet, Accept, Audit}
+use Rattle.cp_tool.specs.Commands.Command.{Judge, Verify, Keygen, AskPut, AskGet, Accept, Audit, Replay}
 use Rattle.cp_tool.specs.PutRuns.{CommandEnds, AskPutEnds, IsAskPut}
 use Rattle.cp_tool.proofs.ClientStatus.{ask_put_not2, ask_get_not2, accept_not2}
 use Rattle.cp_tool.proofs.FaultLemmas.{command_4}
 use Rattle.cp_tool.proofs.AuditRefusals.{audit_not2}
+use Rattle.cp_tool.proofs.ReplayRefusals.{replay_not2}
 use Rattle.cp_tool.specs.Endings.{Outcome, judged, usage, short_seed, unprinted_status}
 use Rattle.cp_tool.specs.Reports.{Reports}
 use Rattle.cp_tool.specs.Runs.{Files, RunEnds, JudgeEnds, KeyEnds, JudgeStatus, Stops, KeepsAll, input_of, ending_of, judge_ending, verify_ending, verified, key_made, secret_in}
@@ -118,6 +119,7 @@ run_2 (Some (AskPut words)) old new ending ends e = absurd ends
 run_2 (Some (AskGet words)) old new ending ends e = absurd (ask_get_not2 words old new ending ends e)
 run_2 (Some (Accept words)) old new ending ends e = absurd (accept_not2 words old new ending ends e)
 run_2 (Some (Audit words)) old new ending ends e = absurd (audit_not2 words old new ending ends e)
+run_2 (Some (Replay words)) old new ending ends e = absurd (replay_not2 words old new ending ends e)
 
 -- ---- the vault's disk
 
@@ -133,6 +135,7 @@ module _ {K : Type 0} (g : disk.Ghosts K) where
   apart (Some (AskGet words)) old new before after ending ends = inr ends
   apart (Some (Accept words)) old new before after ending ends = inr ends
   apart (Some (Audit words)) old new before after ending ends = inr ends
+  apart (Some (Replay words)) old new before after ending ends = inr ends
 
   pub disk_untouched : (command : Option Command) (old new : Files) (before after : K) (ending : Outcome) → CommandEnds g command old new before after ending
       → IsAskPut command ⊎ (after ≡ before)

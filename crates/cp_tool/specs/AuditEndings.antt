@@ -5,12 +5,12 @@ use Rattle.cp_evidence.specs.Evidence.{Evidence}
 use Rattle.cp_evidence.specs.Evidence.Evidence.{K1, K2, K3, K4, K5, K6, K7, K8, K9, K10}
 use Rattle.cp_evidence.specs.Material.{What}
 use Rattle.cp_evidence.specs.Material.What.{FamiliesList, ClosingBefore, ClosingItself, TableBefore, TableItself, LogText, LogOf}
-use Rattle.cp_tool.specs.Endings.{Outcome}
+use Rattle.cp_tool.specs.Endings.{Outcome, line}
 use Rattle.cp_tool.specs.declared.guilt.Guilt.{Guilt}
 use Rattle.cp_tool.specs.declared.guilt.Guilt.TheVariants.{OfKind, WentBack, BrokeRule}
 
 abbrev pub clean : ℕ → ℕ → ℕ → Outcome
-clean entries handed aside = record { status = 0; text = codes "clean entries=" ++ (decimal entries ++ (codes " handed=" ++ (decimal handed ++ (codes " aside=" ++ decimal aside)))) }
+clean entries handed aside = record { status = 0; text = line (codes "clean entries=" ++ (decimal entries ++ (codes " handed=" ++ (decimal handed ++ (codes " aside=" ++ decimal aside))))) }
 
 -- what the printed line names of the evidence
 abbrev pub guilt_of : Evidence → Guilt
@@ -31,7 +31,7 @@ guilty_text (WentBack block) = codes "guilty K6 block=" ++ decimal block
 guilty_text (BrokeRule block rule place other) = codes "guilty K7 block=" ++ (decimal block ++ (codes " rule=" ++ (decimal rule ++ (codes " place=" ++ (decimal place ++ (codes " other=" ++ decimal other))))))
 
 abbrev pub guilty : Guilt → Outcome
-guilty g = record { status = 1; text = guilty_text g }
+guilty g = record { status = 1; text = line (guilty_text g) }
 
 abbrev pub not_given_text : What → List ℕ
 not_given_text FamiliesList = codes "not given families"
@@ -43,8 +43,8 @@ not_given_text LogText = codes "not given log text"
 not_given_text (LogOf block) = codes "not given log " ++ decimal block
 
 abbrev pub not_given : What → Outcome
-not_given what = record { status = 3; text = not_given_text what }
+not_given what = record { status = 3; text = line (not_given_text what) }
 
 -- the hand-ins do not read
 abbrev pub malformed : ℕ → Outcome
-malformed at = record { status = 3; text = codes "malformed " ++ decimal at }
+malformed at = record { status = 3; text = line (codes "malformed " ++ decimal at) }

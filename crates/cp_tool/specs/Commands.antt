@@ -7,7 +7,10 @@ use Rattle.lms_tree.specs.declared.height.Height.{Height}
 use Rattle.lms_tree.specs.declared.height.Height.TheVariants.{H5, H10, H15}
 use Rattle.cp_tool.specs.ClientWords.{CallWords, PutWords, GetWords, AcceptWords}
 use Rattle.cp_tool.specs.AuditWords.{AuditWords}
-use Rattle.cp_tool.specs.Numbers.{number_given}
+use Rattle.cp_tool.specs.Numbers.{number_in, number_given}
+use Rattle.cp_tool.specs.ReplayWords.{ReplayWords}
+use Rattle.cp_store.specs.declared.by.By.{By}
+use Rattle.cp_store.specs.declared.by.By.TheVariants.{Core, Shards}
 
 pub data Command : Type 0 where
   Judge : List ℕ → List ℕ → Command  -- the names of the key's and the evidence's file
@@ -17,6 +20,7 @@ pub data Command : Type 0 where
   AskGet : GetWords → Command
   Accept : AcceptWords → Command
   Audit : AuditWords → Command
+  Replay : ReplayWords → Command
 
 infixl 10 ◌>>=◌
 abbrev pub ◌>>=◌ : {A B : Type 0} → Option A → (A → Option B) → Option B
@@ -128,6 +132,30 @@ audit_of words = do
   out ← value_in options (codes "--out")
   Some (Audit (record { key = key; epoch = epoch; hand_ins = hand_ins; out = out }))
 
+-- 64 unless it is given
+abbrev pub pages_given : Option (List ℕ) → Option ℕ
+pages_given None = Some 64
+pages_given (Some text) = number_in 0 65536 text
+
+abbrev pub by_named : List ℕ → Option By
+by_named text = if is_word text (codes "core") then Some Core else if is_word text (codes "shards") then Some Shards else None
+
+-- by shards unless it is given
+abbrev pub by_given : Option (List ℕ) → Option By
+by_given None = Some Shards
+by_given (Some text) = by_named text
+
+unfoldable pub replay_of : List (List ℕ) → Option Command
+replay_of words = do
+  options ← options_of (codes "--seed --height --width --pages --script --by") words
+  seed ← value_in options (codes "--seed")
+  height ← height_wanted (value_in options (codes "--height"))
+  ots ← width_wanted (value_in options (codes "--width"))
+  pages ← pages_given (value_in options (codes "--pages"))
+  script ← value_in options (codes "--script")
+  by ← by_given (value_in options (codes "--by"))
+  Some (Replay (record { seed = seed; height = height; ots = ots; pages = pages; script = script; by = by }))
+
 -- the command that the words spell, if they are a command's
 unfoldable pub command_of : List (List ℕ) → Option Command
 command_of [] = None
@@ -139,4 +167,5 @@ command_of (name ∷ words) =
     else if is_word name (codes "ask-get") then ask_get_of words
     else if is_word name (codes "accept") then accept_words_of words
     else if is_word name (codes "audit") then audit_of words
+    else if is_word name (codes "replay") then replay_of words
     else None

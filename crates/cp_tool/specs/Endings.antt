@@ -6,48 +6,60 @@ use Rattle.cp_judge.specs.declared.judgement.Judgement.TheVariants.{BadKey, Malf
 
 pub record Outcome : Type 0 where
   pub status : ℕ
-  pub text : List ℕ  -- without the line's end
+  pub text : List ℕ  -- with the end of each line
+
+-- a text and the end of its line
+abbrev pub line : List ℕ → List ℕ
+line text = text ++ codes "\n"
 
 abbrev pub usage : Outcome
-usage = record { status = 2; text = codes "usage" }
+usage = record { status = 2; text = line (codes "usage") }
 
 abbrev pub missing : List ℕ → Outcome
-missing name = record { status = 3; text = codes "missing " ++ name }
+missing name = record { status = 3; text = line (codes "missing " ++ name) }
 
 abbrev pub too_long : ℕ → Outcome
-too_long limit = record { status = 3; text = codes "too long " ++ decimal limit }
+too_long limit = record { status = 3; text = line (codes "too long " ++ decimal limit) }
 
 abbrev pub short_seed : Outcome
-short_seed = record { status = 3; text = codes "short seed" }
+short_seed = record { status = 3; text = line (codes "short seed") }
 
 abbrev pub bad_key : Outcome
-bad_key = record { status = 3; text = codes "bad key" }
+bad_key = record { status = 3; text = line (codes "bad key") }
 
 abbrev pub judged : Judgement → Outcome
 judged BadKey = bad_key
-judged (Malformed at) = record { status = 1; text = codes "malformed " ++ decimal at }
-judged (NotEvidence kind condition) = record { status = 1; text = codes "not evidence K" ++ (decimal kind ++ codes " " ++ decimal condition) }
-judged (Guilty kind) = record { status = 0; text = codes "guilty K" ++ decimal kind }
+judged (Malformed at) = record { status = 1; text = line (codes "malformed " ++ decimal at) }
+judged (NotEvidence kind condition) = record { status = 1; text = line (codes "not evidence K" ++ (decimal kind ++ codes " " ++ decimal condition)) }
+judged (Guilty kind) = record { status = 0; text = line (codes "guilty K" ++ decimal kind) }
 
 abbrev pub valid : Outcome
-valid = record { status = 0; text = codes "valid" }
+valid = record { status = 0; text = line (codes "valid") }
 
 abbrev pub invalid : Outcome
-invalid = record { status = 1; text = codes "invalid" }
+invalid = record { status = 1; text = line (codes "invalid") }
 
 -- the public key that was written
 abbrev pub made : List ℕ → Outcome
-made key = record { status = 0; text = codes "key " ++ encode_lower key }
+made key = record { status = 0; text = line (codes "key " ++ encode_lower key) }
 
 abbrev pub fault : Outcome
-fault = record { status = 4; text = codes "fault" }
+fault = record { status = 4; text = line (codes "fault") }
 
 abbrev pub no_memory : Outcome
-no_memory = record { status = 5; text = codes "no memory" }
+no_memory = record { status = 5; text = line (codes "no memory") }
 
--- the printed line
+-- a script that does not read, by the offset of its first bad line
+abbrev pub malformed : ℕ → Outcome
+malformed at = record { status = 3; text = line (codes "malformed " ++ decimal at) }
+
+-- the lines of a replay's answers, each with its end
+abbrev pub printed : List ℕ → Outcome
+printed text = record { status = 0; text = text }
+
+-- the printed lines
 abbrev pub line_of : Outcome → List ℕ
-line_of ending = ending.text ++ codes "\n"
+line_of ending = ending.text
 
 -- the status where the line cannot be written: 4, but want of memory stays want of memory
 abbrev pub unprinted_status : Outcome → ℕ

@@ -16,6 +16,11 @@ pub mod Folders
 pub mod Inputs
 pub mod Numbers
 pub mod PutRuns
+pub mod ReplayFiles
+pub mod ReplayInputs
+pub mod ReplayRuns
+pub mod ReplayView
+pub mod ReplayWords
 pub mod Reports
 pub mod Runs
 pub mod View

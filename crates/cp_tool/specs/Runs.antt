@@ -10,8 +10,9 @@ use Rattle.lms_tree.specs.Secret.{Secret, public_of}
 use Rattle.cp_evidence.specs.Conditions.{Convicts}
 use Rattle.cp_judge.specs.Judging.{judgement_of}
 use Rattle.cp_tool.specs.Commands.{Command}
-use Rattle.cp_tool.specs.Commands.Command.{Judge, Verify, Keygen, AskPut, AskGet, Accept, Audit}
+use Rattle.cp_tool.specs.Commands.Command.{Judge, Verify, Keygen, AskPut, AskGet, Accept, Audit, Replay}
 use Rattle.cp_tool.specs.AuditRuns.{AuditEnds}
+use Rattle.cp_tool.specs.ReplayRuns.{ReplayEnds}
 use Rattle.cp_tool.specs.ClientRuns.{AskGetEnds, AcceptEnds}
 pub use Rattle.cp_tool.specs.Folders.{Files, input_of, ending_of, Stops, KeepsAll, KeepsOthers, IsFile}
 use Rattle.cp_tool.specs.Endings.{Outcome, usage, short_seed, bad_key, judged, valid, invalid, made, fault}
@@ -96,3 +97,4 @@ RunEnds (Some (AskPut words)) old new ending = ⊥  -- it takes the vault's disk
 RunEnds (Some (AskGet words)) old new ending = AskGetEnds words old new ending
 RunEnds (Some (Accept words)) old new ending = AcceptEnds words old new ending
 RunEnds (Some (Audit words)) old new ending = AuditEnds words old new ending
+RunEnds (Some (Replay words)) old new ending = ReplayEnds words old new ending

@@ -93,7 +93,7 @@ fn client_given(text: Option<&str>) -> Option<u32>
 }
 
 // The height, which must be given.
-fn height_wanted(text: Option<&str>) -> Option<Height>
+pub(crate) fn height_wanted(text: Option<&str>) -> Option<Height>
     ensures { result ≡ height_wanted (option_map (λ t. t.now) text.entry) }
 {
     match text {
@@ -103,7 +103,7 @@ fn height_wanted(text: Option<&str>) -> Option<Height>
 }
 
 // The width, which must be given.
-fn width_wanted(text: Option<&str>) -> Option<OtsType>
+pub(crate) fn width_wanted(text: Option<&str>) -> Option<OtsType>
     ensures { result ≡ width_wanted (option_map (λ t. t.now) text.entry) }
 {
     match text {

@@ -8,6 +8,7 @@ use crate::audit_words::{AuditWords, audit_words};
 use crate::client_words::{
     AcceptWords, GetWords, PutWords, accept_words, ask_get_words, ask_put_words,
 };
+use crate::replay_words::{ReplayWords, replay_words};
 use cp_words::Pairs;
 use lms_ots::OtsType;
 use lms_tree::Height;
@@ -41,9 +42,11 @@ pub enum Command<'a> {
     Accept(AcceptWords<'a>),
     /// `audit`: whether an epoch is clean; writes evidence where the store is guilty.
     Audit(AuditWords<'a>),
+    /// `replay`: runs a script through a new store, and writes the files that it leaves.
+    Replay(ReplayWords<'a>),
 }
 
-fn is_word(word: &str, name: &str) -> bool
+pub(crate) fn is_word(word: &str, name: &str) -> bool
     ensures { result ≡ is_word word.now name.now }
 {
     word == name
@@ -196,6 +199,8 @@ impl<'a> Command<'a> {
             accept_words(options)
         } else if is_word(name, "audit") {
             audit_words(options)
+        } else if is_word(name, "replay") {
+            replay_words(options)
         } else {
             None
         }

@@ -3,10 +3,11 @@ ghost use Rattle.std.specs.Prelude.{◌≡◌};
 
 use crate::audit_ending::AuditEnding;
 use crate::client_ending::ClientEnding;
+use cp_bytes::Bytes;
 use cp_judge::Judgement;
 
 /// How a command ends.
-#[derive(Clone, Copy, Debug, PartialEq, Eq)]
+#[derive(Debug, Drop)]
 pub enum Ending<'a> {
     /// The words aren't a command's: status 2.
     Usage,
@@ -30,6 +31,10 @@ pub enum Ending<'a> {
     Client(ClientEnding),
     /// How `audit` ended: status 0, 1 or 3.
     Audited(AuditEnding),
+    /// `replay`: a line of the script doesn't read, the first with its first byte at `at`: status 3.
+    Malformed { at: u64 },
+    /// `replay`: the files were written; the printed lines, each with its end: status 0.
+    Replayed(Bytes),
     /// A call of the folder or the vault's disk failed: status 4.
     Fault,
     /// Memory was wanted: status 5.
@@ -45,6 +50,7 @@ impl<'a> Ending<'a> {
     {
         match self {
             Ending::Valid | Ending::Key(_) | Ending::Judged(Judgement::Guilty { .. }) => 0,
+            Ending::Replayed(_) => 0,
             Ending::Invalid
             | Ending::Judged(Judgement::Malformed { .. } | Judgement::NotEvidence { .. }) => 1,
             Ending::Usage => 2,
@@ -52,6 +58,7 @@ impl<'a> Ending<'a> {
             | Ending::TooLong { .. }
             | Ending::ShortSeed
             | Ending::BadKey
+            | Ending::Malformed { .. }
             | Ending::Judged(Judgement::BadKey) => 3,
             Ending::Client(ending) => ending.status(),
             Ending::Audited(ending) => ending.status(),

@@ -15,11 +15,14 @@ mod command;
 mod drawing;
 mod ending;
 mod epoch_part;
+mod file_write;
 mod guilt;
 mod inputs;
 mod judging;
 mod keygen;
 mod printing;
+mod replay_words;
+mod replaying;
 mod running;
 mod three_inputs;
 mod verifying;
@@ -32,9 +35,12 @@ pub use command::Command;
 pub use ending::Ending;
 pub use epoch_part::EpochPart;
 pub use guilt::Guilt;
+pub use replay_words::ReplayWords;
 pub use running::run;
 
 #[cfg(test)]
 mod client_tests;
+#[cfg(test)]
+mod replay_tests;
 #[cfg(test)]
 mod tests;

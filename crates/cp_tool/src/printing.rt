@@ -123,6 +123,8 @@ fn put_ending<S: Sink>(out: &mut S, ending: &Ending) -> Result<(), Failed>
         Ending::Key(key) => return put_key(out, key),
         Ending::Client(ending) => return put_client_ending(out, ending),
         Ending::Audited(ending) => return put_audit_ending(out, ending),
+        Ending::Malformed { at } => return put_number(out, b"malformed ", *at),
+        Ending::Replayed(text) => return put_piece(out, text.as_slice()),
         Ending::Usage => b"usage",
         Ending::ShortSeed => b"short seed",
         Ending::BadKey => b"bad key",

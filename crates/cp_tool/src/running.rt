@@ -20,6 +20,7 @@ use crate::ending::Ending;
 use crate::judging::run_judge;
 use crate::keygen::run_keygen;
 use crate::printing::report;
+use crate::replaying::run_replay;
 use crate::verifying::run_verify;
 use cp_outside::{Disk, Folder, Sink};
 use std::alloc::Global;
@@ -59,6 +60,7 @@ fn done<'a, R: Threads + Sync, F: Folder, K: Disk>(
         Some(Command::AskGet(words)) => run_ask_get(alloc, files, words),
         Some(Command::Accept(words)) => run_accept(alloc, files, words),
         Some(Command::Audit(words)) => run_audit(alloc, files, words),
+        Some(Command::Replay(words)) => run_replay(alloc, files, words),
     }
 }
 

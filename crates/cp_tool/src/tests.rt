@@ -31,7 +31,7 @@ fn words_of(alloc: Global, line: &str) -> Result<Vec<String>, Fail> {
 }
 
 // Whether the command ends with this status and this text.
-fn ends<R: Threads + Sync>(
+pub(crate) fn ends<R: Threads + Sync>(
     rt: &R,
     alloc: Global,
     files: &mut MemFolder,
@@ -114,7 +114,7 @@ pub(crate) fn put_file(rt: &impl Abort, files: &mut MemFolder, name: &str, bytes
 }
 
 // Each line ends with its status and its text.
-fn all_end<R: Threads + Sync + Abort>(
+pub(crate) fn all_end<R: Threads + Sync + Abort>(
     rt: &R,
     alloc: Global,
     files: &mut MemFolder,

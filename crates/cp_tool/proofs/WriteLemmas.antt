@@ -1,0 +1,107 @@
+-- A replay's files: which they are, and a folder while they are written one after another.
+use Rattle.std.proofs.Common.{◌≡◌, ℕ, Bool, true, false, cond, suc, ◌+◌, ◌<◌, ◌≤◌, List, [], ◌∷◌, ◌++◌, Option, Some, length, take, drop, get_or, map, string_bytes, refl, sym, ap, subst, ◌∙◌, arith, drop-cons}
+use Rattle.std.specs.Prelude.{◌≢◌, bytes_eq, IsTrue}
+use Rattle.std.specs.Global.{Vec}
+use Rattle.std.proofs.Math.Seq.{split_at}
+use Rattle.std.proofs.lemmas.Bool.Decides.{not_from_Decides}
+use Rattle.std.proofs.lemmas.List.{drop_all, take_all, map_push, map_more, map-append, append_assoc, append-nil}
+use Rattle.std.proofs.lemmas.Slice.Eq.{bytes_eq-Decides}
+use Rattle.cp_outside.specs.Causes.{Rose}
+use Rattle.cp_replay.specs.declared.epoch_files.EpochFiles.{EpochFiles}
+use Rattle.cp_tool.specs.Folders.{Files, KeepsAll}
+use Rattle.cp_tool.specs.ReplayFiles.{FileWrite, StopsAt, WritesAll, content_after, epoch_writes, epochs_writes, write_of}
+use Rattle.cp_tool.specs.ReplayView.{write_view}
+use Rattle.cp_tool.specs.declared.file_write.FileWrite as code
+use Rattle.cp_tool.proofs.InputLemmas.{rose_before}
+
+-- ---- which files
+
+pub ruleset pushed = (map_push)
+
+-- one more behind those that were added
+pub one_more : (before now after so_far : List FileWrite) (name a b : List ℕ) → now ≡ before ++ so_far → after ≡ now ++ write_of name a ∷ [] → a ≡ b → after ≡ before ++ (so_far ++ write_of name b ∷ [])
+one_more before now after so_far name a b is more same =
+    more ∙ ap (λ (x : List ℕ). now ++ write_of name x ∷ []) same ∙ ap (λ (l : List FileWrite). l ++ write_of name b ∷ []) is ∙ append_assoc before so_far (write_of name b ∷ [])
+
+-- the epochs that are left bring the rest
+pub record Listed (before : List FileWrite) (epochs : List EpochFiles) (now : List FileWrite) (epoch index : ℕ) : Type 0 where
+  pub rest : now ++ epochs_writes epoch (drop index epochs) ≡ before ++ epochs_writes 1 epochs
+  pub epoch_is : epoch ≡ index + 1
+
+pub listed_next : (before : List FileWrite) (epochs : List EpochFiles) (now after : List FileWrite) (epoch index : ℕ) (x : EpochFiles) → Listed before epochs now epoch index
+    → index < length epochs → x ≡ get_or epochs index x → after ≡ now ++ epoch_writes epoch x → Listed before epochs after (epoch + 1) (index + 1)
+unfolding epochs_writes
+listed_next before epochs now after epoch index x l inside is more =
+    let left : drop index epochs ≡ x ∷ drop (suc index) epochs = drop-cons epochs index x inside ∙ ap (λ y. y ∷ drop (suc index) epochs) (sym is) in
+    let next : suc index ≡ index + 1 = omega arith in
+    let at : epochs_writes epoch (drop index epochs) ≡ epoch_writes epoch x ++ epochs_writes (epoch + 1) (drop (index + 1) epochs)
+    = ap (epochs_writes epoch) left ∙ ap (λ n. epoch_writes epoch x ++ epochs_writes (epoch + 1) (drop n epochs)) next in
+    record {
+      rest = ap (λ (a : List FileWrite). a ++ epochs_writes (epoch + 1) (drop (index + 1) epochs)) more ∙ append_assoc now (epoch_writes epoch x) _ ∙ ap (λ (a : List FileWrite). now ++ a) (sym at) ∙ l.rest;
+      epoch_is = omega (arith, l.epoch_is);
+    }
+
+pub listed_last : (before : List FileWrite) (epochs : List EpochFiles) (now : List FileWrite) (epoch index : ℕ) → Listed before epochs now epoch index → length epochs ≤ index → now ≡ before ++ epochs_writes 1 epochs
+unfolding epochs_writes
+listed_last before epochs now epoch index l past = sym (append-nil now) ∙ ap (λ (e : List EpochFiles). now ++ epochs_writes epoch e) (sym (drop_all index epochs past)) ∙ l.rest
+
+-- ---- one write after another
+
+abbrev names : List code.FileWrite → List FileWrite
+names items = map write_view items
+
+content_more : (name : List ℕ) (content : Option (List ℕ)) (ws : List FileWrite) (w : FileWrite) → content_after name content (ws ++ w ∷ []) ≡ cond (bytes_eq name w.name) (Some w.bytes) (content_after name content ws)
+unfolding content_after
+content_more name content [] w = refl
+content_more name content (x ∷ xs) w = content_more name (cond (bytes_eq name x.name) (Some x.bytes) content) xs w
+
+-- those before the index were done
+pub record Wrote (items : List code.FileWrite) (old now : Files) (index : ℕ) : Type 0 where
+  pub files : IsTrue old.tells → (name : List ℕ) → now.file name ≡ content_after name (old.file name) (names (take index items))
+  pub tells : now.tells ≡ old.tells
+  pub later : old.faults ≤ now.faults
+
+pub wrote_first : (items : List code.FileWrite) (old : Files) → Wrote items old old 0
+unfolding content_after
+wrote_first items old = record { files = λ t name. refl; tells = refl; later = omega arith }
+
+pub wrote_next : (items : List code.FileWrite) (old mid new : Files) (index : ℕ) (w : code.FileWrite) → Wrote items old mid index → index < length items → w ≡ get_or items index w
+    → (n : List ℕ) → n ≡ string_bytes w.name → (IsTrue mid.tells → new.file n ≡ Some w.bytes.now) → ((other : List ℕ) → other ≢ n → new.file other ≡ mid.file other)
+    → new.tells ≡ mid.tells → mid.faults ≤ new.faults → Wrote items old new (index + 1)
+wrote_next items old mid new index w wrote inside is n named written others tells later = record {
+  files = λ t name. here name t (bytes_eq name (string_bytes w.name)) refl ∙ sym (at name);
+  tells = tells ∙ wrote.tells;
+  later = omega (arith, wrote.later, later);
+}
+  where
+    done : names (take (index + 1) items) ≡ names (take index items) ++ write_view w ∷ []
+    done = map_more write_view items index w inside ∙ ap (λ (x : code.FileWrite). names (take index items) ++ write_view x ∷ []) (sym is)
+
+    at : (name : List ℕ) → content_after name (old.file name) (names (take (index + 1) items)) ≡ cond (bytes_eq name (string_bytes w.name)) (Some w.bytes.now) (content_after name (old.file name) (names (take index items)))
+    at name = ap (content_after name (old.file name)) done ∙ content_more name (old.file name) (names (take index items)) (write_view w)
+
+    here : (name : List ℕ) → IsTrue old.tells → (same : Bool) → bytes_eq name (string_bytes w.name) ≡ same
+        → new.file name ≡ cond (bytes_eq name (string_bytes w.name)) (Some w.bytes.now) (content_after name (old.file name) (names (take index items)))
+    here name t true e = rw e (ap new.file ((bytes_eq-Decides name (string_bytes w.name)).0 e ∙ sym named) ∙ written (wrote.tells ∙ t))
+    here name t false e = rw e (others name (λ same. not_from_Decides _ (bytes_eq-Decides name (string_bytes w.name)) e (same ∙ named)) ∙ wrote.files t name)
+
+pub wrote_last : (items : List code.FileWrite) (old new : Files) (index : ℕ) → Wrote items old new index → length items ≤ index → WritesAll (names items) old new
+wrote_last items old new index wrote past = λ t name. wrote.files t name ∙ ap (λ (xs : List code.FileWrite). content_after name (old.file name) (names xs)) (take_all index items past)
+
+pub wrote_stops : (items : List code.FileWrite) (old mid new : Files) (index : ℕ) (w : code.FileWrite) → Wrote items old mid index → index < length items → w ≡ get_or items index w
+    → (n : List ℕ) → n ≡ string_bytes w.name → ((other : List ℕ) → other ≢ n → new.file other ≡ mid.file other) → Rose mid.faults new.faults → Rose old.faults new.faults × StopsAt (names items) old new
+wrote_stops items old mid new index w wrote inside is n named others rose =
+    let split : items ≡ take index items ++ w ∷ drop (suc index) items = split_at items index w inside ∙ ap (λ (x : code.FileWrite). take index items ++ x ∷ drop (suc index) items) (sym is) in (
+      rose_before old.faults mid.faults new.faults wrote.later rose,
+      record {
+        done = names (take index items);
+        failed = write_view w;
+        left = names (drop (suc index) items);
+        split = ap names split ∙ map-append write_view (take index items) (w ∷ drop (suc index) items);
+        files = λ t name ne. others name (λ same. ne (same ∙ named)) ∙ wrote.files t name;
+      },
+    )
+
+pub ruleset each_epoch = (listed_next, listed_last)
+
+pub ruleset each_write = (wrote_last)

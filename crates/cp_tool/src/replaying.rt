@@ -1,0 +1,115 @@
+//! The command `replay`.
+ghost use Rattle.std.specs.Prelude.{◌≡◌, ◌≤◌, ℕ, List, length};
+ghost use Rattle.cp_tool.specs.Folders.{Files};
+ghost use Rattle.cp_tool.specs.ReplayInputs.{GivesReplay, MakesReplay, WritesReplay};
+ghost use Rattle.cp_tool.specs.ReplayRuns.{ReplayEnds};
+ghost use Rattle.cp_tool.specs.ReplayView.{replay_words_view};
+ghost use Rattle.cp_tool.specs.View.{ending_view};
+
+use crate::ending::Ending;
+use crate::file_write::{FileWrite, write_files};
+use crate::inputs::input;
+use crate::keygen::{SEED_LENGTH, part};
+use crate::replay_words::ReplayWords;
+use cp_outside::Folder;
+use cp_replay::{Replayed, Script, ScriptRefusal, replay};
+use std::alloc::Global;
+
+/// The most bytes of a script: 1 MiB.
+const SCRIPT_LIMIT: u64 = 1_048_576;
+
+// The replay of the script with the seed file's bytes, or how the command ends without one.
+fn replayed<'a>(
+    alloc: Global,
+    words: &ReplayWords<'_>,
+    seed: &[u8],
+    script: &[u8],
+) -> Result<Replayed, Ending<'a>>
+    requires { length seed.now ≤ 48 }
+    ensures { GivesReplay (replay_words_view words.now) seed.now script.now result }
+{
+    if seed.len() < SEED_LENGTH as usize {
+        return Err(Ending::ShortSeed);
+    }
+    let script = match Script::read(alloc, script) {
+        Ok(script) => script,
+        Err(ScriptRefusal::Malformed { at }) => return Err(Ending::Malformed { at }),
+        Err(ScriptRefusal::OutOfMemory) => return Err(Ending::NoMemory),
+    };
+    let seed = part::<48>(seed, 0);
+    match replay(
+        alloc,
+        words.height,
+        words.ots,
+        &seed,
+        words.pages,
+        words.by,
+        &script,
+    ) {
+        Ok(done) => Ok(done),
+        Err(_) => Err(Ending::NoMemory),
+    }
+}
+
+// The replay of the script's file with the seed's file, or how the command ends without one.
+fn made<'a, F: Folder>(
+    alloc: Global,
+    files: &mut F,
+    words: &ReplayWords<'a>,
+) -> Result<Replayed, Ending<'a>>
+    ensures made { MakesReplay (replay_words_view words.now)
+        (record { tells = F.tells files.old; file = F.file files.old; faults = F.faults files.old })
+        (record { tells = F.tells files.new; file = F.file files.new; faults = F.faults files.new }) result }
+    ensures tells { F.tells files.new ≡ F.tells files.old }
+    ensures later { F.faults files.old ≤ F.faults files.new }
+    ensures kept { (other : List ℕ) → F.file files.new other ≡ F.file files.old other }
+{
+    let seed = match input(alloc, files, words.seed, SEED_LENGTH) {
+        Ok(seed) => seed,
+        Err(ending) => return Err(ending),
+    };
+    let script = match input(alloc, files, words.script, SCRIPT_LIMIT) {
+        Ok(script) => script,
+        Err(ending) => return Err(ending),
+    };
+    replayed(alloc, words, seed.as_slice(), script.as_slice())
+}
+
+// Writes the files that a replay leaves.
+fn write_replay<'a, F: Folder>(
+    alloc: Global,
+    files: &mut F,
+    done: &Replayed,
+) -> Result<(), Ending<'a>>
+    ensures { WritesReplay done.now
+        (record { tells = F.tells files.old; file = F.file files.old; faults = F.faults files.old })
+        (record { tells = F.tells files.new; file = F.file files.new; faults = F.faults files.new }) result }
+{
+    let Ok(writes) = FileWrite::all(alloc, done) else {
+        return Err(Ending::NoMemory);
+    };
+    match write_files(files, writes.as_slice()) {
+        Ok(()) => Ok(()),
+        Err(_) => Err(Ending::Fault),
+    }
+}
+
+// Runs a script through a new store, and writes the files that it leaves.
+pub(crate) fn run_replay<'a, F: Folder>(
+    alloc: Global,
+    files: &mut F,
+    words: ReplayWords<'a>,
+) -> Ending<'a>
+    ensures { ReplayEnds (replay_words_view words.entry)
+        (record { tells = F.tells files.old; file = F.file files.old; faults = F.faults files.old })
+        (record { tells = F.tells files.new; file = F.file files.new; faults = F.faults files.new }) (ending_view result) }
+{
+    let done = match made(alloc, files, &words) {
+        Ok(done) => done,
+        Err(ending) => return ending,
+    };
+    match write_replay(alloc, files, &done) {
+        Ok(()) => Ending::Replayed(done.text),
+        Err(ending) => ending,
+    }
+}
