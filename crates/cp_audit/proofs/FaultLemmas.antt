@@ -1,10 +1,10 @@
 -- The least block at which a log fails its tables.
-use Rattle.std.proofs.Common.{◌≡◌, ℕ, zero, suc, ◌+◌, ◌<◌, ◌≤◌, Bool, true, false, cond, not, ◌&&◌, ◌||◌, eqb, ltb, leb, List, [], ◌∷◌, ◌++◌, map, length, get_or, Option, Some, None, ◌⊎◌, inl, inr, refl, sym, ap, ◌∙◌, arith}
+use Rattle.std.proofs.Common.{◌≡◌, ℕ, suc, ◌+◌, ◌<◌, ◌≤◌, Bool, true, false, cond, not, ◌&&◌, ◌||◌, eqb, ltb, leb, List, [], ◌∷◌, ◌++◌, map, length, get_or, Option, Some, None, ◌⊎◌, inl, inr, refl, sym, ap, ◌∙◌, arith}
 use Rattle.std.specs.Prelude.{filter, is_none}
 use Rattle.std.specs.Option.{option_map_or}
 use Rattle.std.proofs.lemmas.Bool.{cases_lt, eqb-true, ltb-true, ltb-false, leb-true, lt-ltb, le-ltb, false≢true, and_parts}
 use Rattle.cp_tips.specs.Tip.{Tip}
-use Rattle.cp_tips.specs.Table.{TableRow, row_in, row, all_above, ascends}
+use Rattle.cp_tips.specs.Table.{TableRow, row_in, row, ascends}
 use Rattle.cp_chain.specs.Frame.{Frame}
 use Rattle.cp_chain.specs.Log.{LogPart, parts_ascend}
 use Rattle.cp_chain.specs.Standing.{reaches}
@@ -13,27 +13,9 @@ use Rattle.cp_audit.specs.Faults.{IsLeast, lacks, astray, least_two}
 use Rattle.cp_evidence.proofs.Searches.{all_always, pass_none}
 use Rattle.cp_audit.proofs.LookupLemmas.{below_all, part_there}
 use Rattle.cp_audit.proofs.RegressLemmas.{Has, least_of_is, passing_has, passing_above, row_has}
+use Rattle.cp_audit.proofs.WalkLemmas.{has_place, before_it, count_there}
 
--- ---- the least of a list by place
-
-Has-at : (bs : List ℕ) (c : ℕ) → Has c bs → (i : ℕ) × (i < length bs) × (get_or bs i 0 ≡ c)
-Has-at [] c h = absurd h
-Has-at (b ∷ bs) c (inl e) = (0, omega arith, e)
-Has-at (b ∷ bs) c (inr h) = let w = Has-at bs c h in (suc w.0, omega (arith, w.1), w.2)
-
-above_has : (block : ℕ) (rows : List TableRow) (c : ℕ) → all_above block rows ≡ true → Has c (blocks_in rows) → block < c
-above_has block [] c all h = absurd h
-above_has block (r ∷ rs) c all (inl e) = let lt : block < r.block = ltb-true _ _ (and_parts (ltb block r.block) (all_above block rs) all).0 in omega (arith, lt, e)
-above_has block (r ∷ rs) c all (inr h) = above_has block rs c (and_parts (ltb block r.block) (all_above block rs) all).1 h
-
--- in a table that ascends a lesser block stands before
-before_it : (rows : List TableRow) (i : ℕ) (c : ℕ) → ascends rows ≡ true → i < length (blocks_in rows) → Has c (blocks_in rows) → c < get_or (blocks_in rows) i 0 → (k : ℕ) × (k < i) × (get_or (blocks_in rows) k 0 ≡ c)
-unfolding ascends
-before_it [] i c up lt h less = absurd h
-before_it (r ∷ rs) zero c up lt (inl e) less = absurd (omega (arith, e, less))
-before_it (r ∷ rs) zero c up lt (inr h) less = let above = above_has r.block rs c (and_parts (all_above r.block rs) (ascends rs) up).0 h in absurd (omega (arith, above, less))
-before_it (r ∷ rs) (suc i) c up lt (inl e) less = (0, omega arith, e)
-before_it (r ∷ rs) (suc i) c up lt (inr h) less = let w = before_it rs i c (and_parts (all_above r.block rs) (ascends rs) up).1 (omega (arith, lt)) h less in (suc w.0, omega (arith, w.1), w.2)
+-- ---- blocks that lack a segment
 
 -- a block that lacks a segment has a row
 lacking_has : (before after : List TableRow) (parts : List LogPart) (c : ℕ) → lacks before after parts c ≡ true → Has c (blocks_in after)
@@ -53,12 +35,19 @@ by_bool false t f = f refl
 not_lacking : (before after : List TableRow) (parts : List LogPart) (c : ℕ) → (Has c (blocks_in after) → lacks before after parts c ≡ false) → lacks before after parts c ≡ false
 not_lacking before after parts c h = by_bool (lacks before after parts c) (λ t. h (lacking_has before after parts c t)) (λ f. f)
 
+-- the test by two counts
+pub lacks_is : (before after : List TableRow) (parts : List LogPart) (i block old new : ℕ) → ascends after ≡ true → i < length after → block ≡ get_or (blocks_in after) i 0 → old ≡ (row before block).count → new ≡ get_or (map (λ r. r.tip.count) after) i 0
+    → lacks before after parts block ≡ (is_none (part_of parts block) && ltb old new)
+lacks_is before after parts i block old new up lt is old_is new_is =
+    let after_is : (row after block).count ≡ new = count_there after block i up lt (sym is) ∙ sym new_is in
+    ap (λ (n : ℕ). is_none (part_of parts block) && ltb n (row after block).count) (sym old_is) ∙ ap (λ (n : ℕ). is_none (part_of parts block) && ltb old n) after_is
+
 pub lacking_found : (before after : List TableRow) (parts : List LogPart) (i block : ℕ) → ascends after ≡ true → i < length (blocks_in after) → block ≡ get_or (blocks_in after) i 0 → lacks before after parts block ≡ true
     → ((k : ℕ) → k < i → lacks before after parts (get_or (blocks_in after) k 0) ≡ false) → IsLeast (lacks before after parts) (Some block)
 lacking_found before after parts i block up lt is h earlier = (h, λ c less. not_lacking before after parts c (λ has. let w = before_it after i c up lt has (omega (arith, less, is)) in ap (lacks before after parts) (sym w.2) ∙ earlier w.0 w.1))
 
 pub none_lacking : (before after : List TableRow) (parts : List LogPart) → ((k : ℕ) → k < length (blocks_in after) → lacks before after parts (get_or (blocks_in after) k 0) ≡ false) → IsLeast (lacks before after parts) None
-none_lacking before after parts all c = not_lacking before after parts c (λ has. let w = Has-at (blocks_in after) c has in ap (lacks before after parts) (sym w.2) ∙ all w.0 w.1)
+none_lacking before after parts all c = not_lacking before after parts c (λ has. let w = has_place (blocks_in after) c has in ap (lacks before after parts) (sym w.2) ∙ all w.0 w.1)
 
 -- ---- segments that do not reach
 

@@ -9,6 +9,7 @@ pub mod HandInLemmas
 pub mod ViewLemmas
 pub mod RegressLemmas
 pub mod LookupLemmas
+pub mod WalkLemmas
 pub mod FaultLemmas
 pub mod GivenLemmas
 pub mod RowLemmas

@@ -3,6 +3,7 @@ pub mod Heads
 pub mod Parts
 pub mod HandIns
 pub mod Faults
+pub mod Walks
 pub mod Given
 pub mod Rows
 pub mod LogParts

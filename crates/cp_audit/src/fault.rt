@@ -1,14 +1,15 @@
 //! Where a log fails its tables.
-ghost use Rattle.std.specs.Prelude.{◌≡◌, true, map, None};
+ghost use Rattle.std.specs.Prelude.{◌≡◌, ◌&&◌, true, map, None, is_none};
 ghost use Rattle.std.specs.List.{AllByRecursion};
 ghost use Rattle.cp_chain.specs.Log.{parts_ascend};
-ghost use Rattle.cp_evidence.specs.Material.{log_fault, rose};
+ghost use Rattle.cp_evidence.specs.Material.{log_fault, part_of};
 ghost use Rattle.cp_audit.specs.Faults.{IsLeast, astray, lacks, least_two};
 ghost use Rattle.cp_audit.specs.Parts.{part_view, IsFramed, frame_in};
 
 use crate::frames::Frames;
 use crate::lookup::part_at;
 use crate::part::Part;
+use crate::walk::{count_at_place, place_from};
 
 // The least block whose count rose without a segment that reaches, or that has one though its count
 // didn't rise.
@@ -31,33 +32,30 @@ fn least(a: Option<u64>, b: Option<u64>) -> Option<u64>
     }
 }
 
-// The least block whose count rose and that has no segment.
+// The least block whose count rose and that has no segment, in one pass over both tables.
 fn first_lacking(frames: &Frames, parts: &[Part]) -> Option<u64>
     requires { parts_ascend None (map part_view parts.now) ≡ true }
     ensures { IsLeast (lacks frames.now.before frames.now.after (map part_view parts.now)) result }
 {
+    // Where the block stands in the table before.
+    let mut place = 0;
     for i in 0..frames.after.count() {
         let block = frames.after.block(i);
-        if lacks(frames, parts, block) {
+        place = place_from(&frames.before, place, block);
+        let rose = count_at_place(&frames.before, place, block) < frames.after.count_at(i);
+        if lacks(parts, block, rose) {
             return Some(block);
         }
     }
     None
 }
 
-// Whether the block's count rose and it has no segment.
-fn lacks(frames: &Frames, parts: &[Part], block: u64) -> bool
+// Whether the block has no segment though its count rose.
+fn lacks(parts: &[Part], block: u64, rose: bool) -> bool
     requires { parts_ascend None (map part_view parts.now) ≡ true }
-    ensures { result ≡ lacks frames.now.before frames.now.after (map part_view parts.now) block }
+    ensures { result ≡ (is_none (part_of (map part_view parts.now) block) && rose) }
 {
-    part_at(parts, block).is_none() && rose(frames, block)
-}
-
-// Whether the block's count rose.
-fn rose(frames: &Frames, block: u64) -> bool
-    ensures { result ≡ rose frames.now.before frames.now.after block }
-{
-    frames.before.row(block).count < frames.after.row(block).count
+    rose && part_at(parts, block).is_none()
 }
 
 // The least block with a segment that doesn't reach.

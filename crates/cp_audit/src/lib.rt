@@ -26,6 +26,7 @@ mod store;
 mod tables;
 mod taking;
 pub mod verdict;
+mod walk;
 pub mod what;
 
 pub use auditing::audit;

@@ -1,5 +1,5 @@
 -- The statements of the laws on texts.
-use Rattle.std.specs.Prelude.{ℕ, ◌+◌, ◌<◌, ◌≡◌, List, length, Result, Ok, IsOk}
+use Rattle.std.specs.Prelude.{ℕ, ◌+◌, ◌≡◌, List, length, Result, Ok, IsOk}
 use Rattle.cp_bytes.specs.Fields.{IsBytes}
 use Rattle.cp_statements.specs.PutRequest as put_request
 use Rattle.cp_statements.specs.GetRequest as get_request

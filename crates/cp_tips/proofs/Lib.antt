@@ -4,4 +4,4 @@ pub mod Searching
 pub mod Merging
 pub mod Exact
 pub mod Ordered
-pub mod RowBlocks
+pub mod RowNumbers

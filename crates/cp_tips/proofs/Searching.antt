@@ -47,7 +47,8 @@ below_all (r ∷ rs) i zero d up lt in_range = absurd (omega (arith, lt))
 below_all (r ∷ rs) zero (suc j) d up lt in_range = above_at r.block rs j d (and_parts _ _ up).0 (omega (arith, in_range))
 below_all (r ∷ rs) (suc i) (suc j) d up lt in_range = below_all rs i j d (and_parts _ _ up).1 (omega (arith, lt)) (omega (arith, in_range))
 
-row_at : (rows : List TableRow) (i : ℕ) (d : TableRow) → ascends rows ≡ true → i < length rows → row_in rows (get_or rows i d).block ≡ Some (get_or rows i d).tip
+-- the row at a place is its block's
+pub row_at : (rows : List TableRow) (i : ℕ) (d : TableRow) → ascends rows ≡ true → i < length rows → row_in rows (get_or rows i d).block ≡ Some (get_or rows i d).tip
 unfolding ascends
 row_at [] i d up lt = absurd (omega (arith, lt))
 row_at (r ∷ rs) zero d up lt = rw (same r.block) refl
