@@ -1,6 +1,6 @@
 -- What was served in a clean epoch is the latest put's content.
-use Rattle.std.proofs.Common.{◌≡◌, ◌⊎◌, inl, inr, ℕ, ◌<◌, ◌≤◌, Bool, true, false, cond, ◌&&◌, eqb, List, [], ◌∷◌, Option, Some, None, Result, Ok, Err, length, refl, sym, ap, subst, ◌∙◌, arith}
-use Rattle.std.specs.Prelude.{bytes_eq, Contains}
+use Rattle.std.proofs.Common.{◌≡◌, ◌⊎◌, inl, inr, ℕ, ◌<◌, Bool, true, false, cond, ◌&&◌, eqb, List, [], ◌∷◌, Option, Some, None, Result, Ok, Err, length, refl, sym, ap, subst, ◌∙◌, arith}
+use Rattle.std.specs.Prelude.{bytes_eq}
 use Rattle.std.proofs.lemmas.Bool.{eqb-true, false≢true}
 use Rattle.std.proofs.lemmas.Slice.Eq.{bytes_eq-Decides}
 use Rattle.sha2.specs.Sha256.{sha256}
@@ -11,17 +11,15 @@ use Rattle.cp_statements.specs.Attestation.{Attestation, attestation_of}
 use Rattle.cp_statements.specs.Envelope.{Envelope, envelope_at}
 use Rattle.cp_statements.specs.GetRequest.{GetRequest}
 use Rattle.cp_chain.specs.Legal.{Put}
-use Rattle.cp_evidence.specs.AuditLaws.{latest_there}
-use Rattle.cp_evidence.specs.Audited.{audited, audited_given, verdict_on}
+use Rattle.cp_evidence.specs.Audited.{audited}
 use Rattle.cp_evidence.specs.Conditions.{signed_by}
 use Rattle.cp_evidence.specs.Evidence.{Evidence}
 use Rattle.cp_evidence.specs.HandIns.{hand_ins_of}
-use Rattle.cp_evidence.specs.Material.{Material, What, GivenEpoch, given_of}
-use Rattle.cp_evidence.specs.Verdict.{Verdict, guilt, verdict, verdict_by}
-use Rattle.cp_evidence.specs.Verdict.Verdict.{Clean, Guilty}
+use Rattle.cp_evidence.specs.Material.{Material, GivenEpoch, given_of}
+use Rattle.cp_evidence.specs.Verdict.{guilt, verdict_by}
+use Rattle.cp_evidence.specs.Verdict.Verdict.{Clean}
 use Rattle.cp_evidence.proofs.AuditLemmas.{latest_gets}
 use Rattle.cp_client.specs.Accepting.{Tests, first_apart, Accepted, accept_of, read_or_refused, must, same_call, other_than_get, content_fits, head_fits}
-use Rattle.cp_client.specs.Asking.{Asked}
 use Rattle.cp_client.specs.Asking.Asked.{Get}
 use Rattle.cp_client.specs.Laws.{AreTwins, IsClean, ServedIsLatest}
 use Rattle.cp_client.specs.declared.field.Field.{Field}

@@ -9,7 +9,7 @@ use mathlib.Core.Option.{some, some-injective, some-ne-none}
 use native.Mathlib.Decide.{ℕ_discrete}
 use lib.ListN.{get_elem?}
 use Rattle.atomic_table.specs.Table.{State, Splits, opening}
-use Rattle.atomic_table.proofs.Lists.{at_set, set_here, set_else, set_again, at_snoc, at_longer}
+use Rattle.atomic_table.proofs.Lists.{set_else, at_longer}
 use Rattle.cp_gate.specs.declared.view.Identity.{Identity}
 use Rattle.cp_gate.specs.declared.view.View.{View}
 use Rattle.cp_gate.specs.Histories.{times, once_below, seen_of, OthersAdd, SeatsAdd}

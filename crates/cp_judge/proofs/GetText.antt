@@ -3,9 +3,9 @@ use Rattle.std.proofs.Common.{◌≡◌, ℕ, List, [], ◌∷◌, ◌++◌, len
 use Rattle.std.specs.Prelude.{codes}
 use Rattle.std.specs.Int.{w32, w64, to_be_bytes}
 use Rattle.std.proofs.lemmas.List.{append-nil, take_all}
-use Rattle.cp_bytes.specs.Fields.{part, spell}
+use Rattle.cp_bytes.specs.Fields.{spell}
 use Rattle.cp_statements.specs.Attestation.{Attestation}
-use Rattle.cp_statements.specs.Entry.{Entry, entry_tag, entry_fields, entry_values, signature_text, entry_text}
+use Rattle.cp_statements.specs.Entry.{entry_tag, entry_fields, entry_values, signature_text, entry_text}
 use Rattle.cp_statements.specs.Tagged.{tagged_text}
 use Rattle.cp_evidence.specs.Conditions.{entry_for}
 

@@ -1,5 +1,5 @@
 -- The judge answers guilty exactly where the bytes convict.
-use Rattle.std.proofs.Common.{◌≡◌, ℕ, List, Bool, true, false, Result, Ok, Err, refl, sym, ◌∙◌, subst}
+use Rattle.std.proofs.Common.{◌≡◌, ℕ, List, Bool, true, false, Result, Ok, Err, refl}
 use Rattle.std.specs.Prelude.{IsOkAnd, ◌↔◌}
 use Rattle.lms_tree.specs.PublicKey.{key_reads}
 use Rattle.cp_evidence.specs.Evidence.{Evidence, evidence_of, kind_of}

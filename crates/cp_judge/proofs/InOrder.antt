@@ -1,10 +1,9 @@
 -- Rows of a table that is well formed.
-use Rattle.std.proofs.Common.{◌≡◌, ℕ, ◌<◌, ◌≤◌, Bool, true, false, cond, not, ◌&&◌, eqb, ltb, leb, List, [], ◌∷◌, Option, Some, None, refl, sym, ap, ◌∙◌, arith}
-use Rattle.std.specs.Prelude.{◌||◌, ◌==◌}
+use Rattle.std.proofs.Common.{◌≡◌, ℕ, ◌≤◌, Bool, true, false, cond, eqb, ltb, leb, List, [], ◌∷◌, Option, Some, None, refl, ap, arith}
 use Rattle.std.specs.List.{list_all}
-use Rattle.std.proofs.lemmas.Bool.{and_parts, and_from, leb-true, lt-ltb, le-leb}
-use Rattle.cp_tips.specs.Tip.{Tip, same_tip, fresh}
-use Rattle.cp_tips.specs.Table.{TableRow, ascends, well_formed, row_in, tip_or_fresh, row, regressed_tip, regressed_from, regressed}
+use Rattle.std.proofs.lemmas.Bool.{and_parts, and_from, leb-true, lt-ltb}
+use Rattle.cp_tips.specs.Tip.{Tip}
+use Rattle.cp_tips.specs.Table.{TableRow, ascends, well_formed, row_in, tip_or_fresh, row, regressed_from, regressed}
 use Rattle.cp_judge.specs.Rows.{in_order, went_back}
 
 pub formed_in_order : (rows : List TableRow) (n entries : ℕ) → well_formed rows n entries ≡ true → in_order rows ≡ true

@@ -1,8 +1,7 @@
 -- A signature that verifies is long enough to name a leaf.
-use Rattle.std.proofs.Common.{◌≡◌, ℕ, ◌≤◌, ◌<◌, List, length, Bool, true, false, sym, ◌∙◌, inl, inr}
+use Rattle.std.proofs.Common.{◌≡◌, ℕ, ◌≤◌, List, length, Bool, true, false, inl, inr}
 use Rattle.std.proofs.lemmas.Bool.{cases_lt}
 use Rattle.cp_statements.specs.Envelope.{Envelope}
-use Rattle.lms_tree.specs.Verifying.{verifies}
 use Rattle.lms_tree.proofs.Testing.{verifies-short}
 use Rattle.cp_evidence.specs.Conditions.{signed_by}
 

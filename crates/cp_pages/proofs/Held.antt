@@ -1,11 +1,11 @@
 -- What a caller that keeps several runs needs: other runs stay as they are.
-use Rattle.std.proofs.Common.{◌≡◌, ◌≢◌, ℕ, ◌+◌, ◌<◌, List, [], ◌∷◌, length, get_or, set, Option, None, refl, sym, ◌∙◌, ap, arith, inl, inr, add-zero}
+use Rattle.std.proofs.Common.{◌≡◌, ℕ, ◌+◌, ◌<◌, List, [], ◌∷◌, length, set, Option, None, sym, ◌∙◌, ap, arith, inl, inr, add-zero}
 use Rattle.std.proofs.lemmas.Bool.{cases_eq, cases_lt}
 use Rattle.std.proofs.lemmas.List.{get_or-set_other, get_or_past, length-set}
 use Rattle.std.proofs.lemmas.List.Sums.{sum_by-set}
 use Rattle.cp_pages.specs.Extent.{Extent}
 use Rattle.cp_pages.specs.Pages.{Kept, Pages, pages_for, kept_at, bytes_of, content_of, IsLive, AreApart, IsNew, IsPlaced, IsGivenBack, with_run, taken_pages}
-use Rattle.cp_pages.specs.History.{Change, Placed, GivenBack, Changes, ChangesAlong, Spares, SparesAlong, LiveRunsStay, NewRunsAreApart}
+use Rattle.cp_pages.specs.History.{Placed, GivenBack, LiveRunsStay, NewRunsAreApart}
 use Rattle.cp_pages.proofs.Runs.{content-empty, content-at, with_run-empty, with_run-at}
 
 -- a run is apart from each that is live, where none begins at its first page

@@ -1,14 +1,14 @@
 -- A pool stays laid out as its chains change, and what follows of its runs.
-use Rattle.std.proofs.Common.{◌≡◌, ◌≢◌, ℕ, zero, suc, ◌+◌, ◌-◌, ◌*◌, ◌<◌, ◌≤◌, ◌^◌, ◌⊎◌, List, [], ◌∷◌, length, get_or, set, Option, None, Some, refl, sym, ◌∙◌, ap, arith, inl, inr, zero-add, sum_by}
+use Rattle.std.proofs.Common.{◌≡◌, ◌≢◌, ℕ, zero, suc, ◌+◌, ◌-◌, ◌<◌, ◌≤◌, ◌⊎◌, List, [], length, get_or, set, None, refl, sym, ◌∙◌, ap, arith, inl, inr, zero-add, sum_by}
 use Rattle.std.proofs.lemmas.Bool.{cases_eq, cases_lt}
 use Rattle.std.proofs.lemmas.List.{get_or-set_same, get_or-set_other, get_or_past, length-set}
-use Rattle.std.proofs.lemmas.List.Sums.{sum_by-set, get_or-le-sum_by}
+use Rattle.std.proofs.lemmas.List.Sums.{sum_by-set}
 use Rattle.cp_pages.specs.Extent.{Extent}
-use Rattle.cp_pages.specs.Pages.{Kept, pages_for, kept_at, bytes_of, numbers_of, content_of, IsLive, IsPaged, free_pages, taken_pages}
+use Rattle.cp_pages.specs.Pages.{pages_for, kept_at, bytes_of, numbers_of, content_of, IsLive, IsPaged, free_pages, taken_pages}
 use Rattle.cp_pages.specs.Chain.{page_after, chain, chain_content, page_at}
 use Rattle.cp_pages.specs.Layout.{kept_from, runs_from, start, count, IsLaidOut}
 use Rattle.cp_pages.proofs.Chains.{page_after-add, page_after-set, get_or-chain, length-chain}
-use Rattle.cp_pages.proofs.Runs.{kept_at-runs, length-runs, taken-runs, length-numbers, length-content, some_kept, kept_is, kept_same, runs-set, content-at, content-empty}
+use Rattle.cp_pages.proofs.Runs.{kept_at-runs, length-runs, taken-runs, length-content, some_kept, kept_is, kept_same, runs-set, content-at, content-empty}
 
 -- a place in a chain of the new layout, and the place of the old one that has its page
 record Origin (old new : ℕ → ℕ → ℕ) (counts : ℕ → ℕ) (Was : ℕ → ℕ → ℕ → ℕ → Type 0) (c i : ℕ) : Type 0 where

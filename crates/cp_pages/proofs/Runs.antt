@@ -1,11 +1,11 @@
 -- What a contract sees of the chains of a pool.
-use Rattle.std.proofs.Common.{◌≡◌, ◌≢◌, ℕ, zero, suc, ◌+◌, ◌-◌, ◌*◌, ◌<◌, ◌≤◌, ◌==◌, if◌then◌else◌, List, [], ◌∷◌, ◌++◌, length, get_or, set, take, Option, None, Some, refl, sym, ◌∙◌, ap, arith, inl, inr, add-suc, add-zero, zero-add, sum_by, replicate}
+use Rattle.std.proofs.Common.{◌≡◌, ◌≢◌, ℕ, zero, suc, ◌+◌, ◌-◌, ◌<◌, if◌then◌else◌, List, [], ◌∷◌, length, get_or, set, take, Option, None, Some, refl, sym, ◌∙◌, ap, arith, inl, inr, add-zero, zero-add, sum_by, replicate}
 use Rattle.std.proofs.lemmas.Bool.{cases_eq}
 use Rattle.std.proofs.lemmas.Bool.Decides.{nat_tests}
 use Rattle.std.proofs.lemmas.List.{ext_get_or, get_or-set_same, get_or-set_other, length-set, length-take-le}
 use Rattle.std.proofs.lemmas.List.Sums.{sum_by-cons}
 use Rattle.cp_pages.specs.Extent.{Extent}
-use Rattle.cp_pages.specs.Pages.{Kept, Pages, pages_for, kept_at, bytes_of, numbers_of, content_of, IsLive, with_run, taken_pages}
+use Rattle.cp_pages.specs.Pages.{Kept, Pages, pages_for, kept_at, bytes_of, numbers_of, content_of, with_run, taken_pages}
 use Rattle.cp_pages.specs.Chain.{page_after, chain, chain_content, page_at, bytes_at}
 use Rattle.cp_pages.specs.Layout.{kept_from, runs_from}
 use Rattle.cp_pages.proofs.Chains.{chain_same, bytes_same, length-chain, length-bytes}

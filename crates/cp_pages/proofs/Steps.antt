@@ -1,5 +1,5 @@
 -- What the calls of a pool leave, over plain variables.
-use Rattle.std.proofs.Common.{◌≡◌, ◌≢◌, ℕ, zero, suc, ◌+◌, ◌-◌, ◌*◌, ◌<◌, ◌≤◌, ◌^◌, List, [], ◌∷◌, length, get_or, set, map, replicate, Option, None, Some, refl, sym, ◌∙◌, ap, arith, inl, inr, zero-add, add-suc, sum_by}
+use Rattle.std.proofs.Common.{◌≡◌, ◌≢◌, ℕ, zero, suc, ◌+◌, ◌-◌, ◌<◌, ◌≤◌, ◌^◌, List, [], length, get_or, set, map, replicate, None, refl, sym, ◌∙◌, ap, arith, inl, inr, sum_by}
 use Rattle.std.specs.List.{range_with_len}
 use Rattle.std.proofs.lemmas.Bool.{cases_eq, cases_lt}
 use Rattle.std.proofs.lemmas.List.{get_or-set_same, get_or-replicate, get_or-map, get_or_past, length-map, length-replicate}
@@ -7,11 +7,11 @@ use Rattle.std.proofs.lemmas.List.FromFn.{get_or-range_with_len, length-range_wi
 use Rattle.std.proofs.lemmas.List.Folds.{sum_by-replicate}
 use Rattle.std.proofs.lemmas.List.Sums.{get_or-le-sum_by}
 use Rattle.cp_pages.specs.Extent.{Extent}
-use Rattle.cp_pages.specs.Pages.{Kept, Pages, pages_for, kept_at, bytes_of, content_of, IsLive, IsPlaced, with_run}
+use Rattle.cp_pages.specs.Pages.{Pages, pages_for, kept_at, bytes_of, content_of, IsLive, IsPlaced, with_run}
 use Rattle.cp_pages.specs.Chain.{page_after, chain, chain_content, page_at}
 use Rattle.cp_pages.specs.Layout.{runs_from, start, count, IsLaidOut}
 use Rattle.cp_pages.proofs.Runs.{length-runs, some_kept, content-at, with_run-at}
-use Rattle.cp_pages.proofs.Layouts.{unused, none-seen, laid-taken, runs-taken, laid-given, runs-given, begins-inside, live-len, content-live}
+use Rattle.cp_pages.proofs.Layouts.{none-seen, laid-taken, runs-taken, laid-given, runs-given, begins-inside, live-len, content-live}
 
 -- a content that is placed in a run of its own
 pub is-placed : (old new : Pages) (bytes : List ℕ) (first : ℕ) (numbers : List ℕ) → kept_at old first ≡ None → first < length old

@@ -1,5 +1,5 @@
 -- What a pool goes through, and what its live runs keep. This project's own.
-use Rattle.std.specs.Prelude.{◌≡◌, ℕ, List, [], ◌∷◌, All}
+use Rattle.std.specs.Prelude.{◌≡◌, ℕ, List, [], ◌∷◌}
 use Rattle.cp_pages.specs.Extent.{Extent}
 use Rattle.cp_pages.specs.Pages.{Pages, content_of, IsLive, AreApart, IsPlaced, IsGivenBack}
 

@@ -1,5 +1,5 @@
 -- How a pool lays out its runs. No public clause cites this module.
-use Rattle.std.specs.Prelude.{◌≡◌, ◌≢◌, ℕ, zero, suc, ◌+◌, ◌<◌, ◌≤◌, ◌^◌, ◌==◌, if◌then◌else◌, List, [], ◌∷◌, length, Option, None, Some, slice_index, slice_index_or, All, sum_by}
+use Rattle.std.specs.Prelude.{◌≡◌, ℕ, zero, suc, ◌+◌, ◌<◌, ◌^◌, List, [], ◌∷◌, length, Option, None, Some, slice_index, slice_index_or, sum_by}
 use Rattle.cp_pages.specs.Pages.{Kept, Pages, pages_for}
 use Rattle.cp_pages.specs.Chain.{page_after, chain, chain_content}
 

@@ -1,5 +1,5 @@
 -- What a contract sees of a pool: the live runs by the page where each begins. This project's own.
-use Rattle.std.specs.Prelude.{◌≡◌, ◌≢◌, ℕ, ◌+◌, ◌-◌, ◌<◌, ◌==◌, if◌then◌else◌, List, [], length, Option, None, Some, slice_index_or, slice_set, sum_by, Contains, All}
+use Rattle.std.specs.Prelude.{◌≡◌, ◌≢◌, ℕ, ◌-◌, ◌<◌, ◌==◌, if◌then◌else◌, List, [], length, Option, None, Some, slice_index_or, slice_set, sum_by, All}
 use Rattle.std.specs.Int.{div_ceil}
 use Rattle.cp_pages.specs.Extent.{Extent}
 

@@ -1,14 +1,13 @@
 -- A put that the script's writer signs is admissible.
-use Rattle.std.proofs.Common.{◌≡◌, ℕ, ◌+◌, ◌<◌, ◌≤◌, ◌^◌, List, length, Some, true, Ok, refl, ap, sym, ◌∙◌, subst, arith}
+use Rattle.std.proofs.Common.{◌≡◌, ℕ, ◌<◌, ◌≤◌, ◌^◌, List, length, Some, true, ap, ◌∙◌, arith}
 use Rattle.sha2.specs.Sha256.{sha256}
 use Rattle.lms_tree.specs.Secret.{Secret, leaves_of, public_of, signature, signature_len}
-use Rattle.lms_tree.specs.Verifying.{verifies}
 use Rattle.lms_tree.proofs.Climbing.{sig_long, signature_verifies}
 use Rattle.cp_statements.specs.PutRequest.{PutRequestFits, put_request_text}
 use Rattle.cp_statements.specs.View.{put_request_view}
 use Rattle.cp_statements.specs.declared.put_request.PutRequest.{PutRequest}
 use Rattle.cp_families.specs.Families.{FamiliesFit, FamilyRow, families_of, families_text, key_of}
-use Rattle.cp_families.specs.Writers.{family_of, signed_request, verified_by}
+use Rattle.cp_families.specs.Writers.{family_of, signed_request}
 use Rattle.cp_families.proofs.Exact.{families_again}
 use Rattle.cp_core.specs.Store.{Store, or_nil, writers}
 use Rattle.cp_core.specs.Machine.{Admissible}

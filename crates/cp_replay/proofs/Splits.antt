@@ -1,7 +1,7 @@
 -- The first word of a line, and its other words.
-use Rattle.std.proofs.Common.{◌≡◌, ℕ, ◌+◌, ◌-◌, ◌<◌, List, [], ◌∷◌, length, get_or, take, drop, ◌==◌, Bool, true, false, All, Some, None, refl, length-drop, arith}
+use Rattle.std.proofs.Common.{◌≡◌, ℕ, ◌+◌, ◌-◌, List, [], ◌∷◌, length, get_or, take, drop, ◌==◌, Bool, true, false, All, Some, None, refl, length-drop, arith}
 use Rattle.std.specs.Prelude.{not}
-use Rattle.std.specs.List.{slice_split, position, position_or_len}
+use Rattle.std.specs.List.{position, position_or_len}
 use Rattle.std.proofs.lemmas.List.Splits.{slice_split_none, slice_split_first, length-slice_split}
 use Rattle.std.proofs.lemmas.Bool.{ne_eqb}
 use Rattle.std.proofs.lemmas.List.Sums.{prefix_len_passes}

@@ -1,15 +1,12 @@
 -- Each step of a replay follows the definition's.
-use Rattle.std.proofs.Common.{◌*◌, drop, get_or, drop-cons, ◌≡◌, ℕ, zero, suc, ◌+◌, ◌<◌, ◌≤◌, ◌^◌, List, [], ◌∷◌, ◌++◌, length, Option, Some, None, Result, Ok, Err, refl, ap, sym, ◌∙◌, subst, arith, length-append}
-use Rattle.std.specs.Prelude.{map}
+use Rattle.std.proofs.Common.{◌*◌, drop, get_or, drop-cons, ◌≡◌, ℕ, zero, suc, ◌+◌, ◌<◌, ◌≤◌, ◌^◌, List, [], ◌∷◌, ◌++◌, length, Some, refl, ap, sym, ◌∙◌, subst, arith, length-append}
 use Rattle.std.specs.List.{AllByRecursion}
-use Rattle.lms_tree.specs.Secret.{Secret, leaves_of, signature_len}
+use Rattle.lms_tree.specs.Secret.{Secret}
 use Rattle.cp_statements.specs.Closing.{closing_of}
 use Rattle.cp_statements.specs.declared.kind.Kind.{Kind}
-use Rattle.cp_core.specs.Booking.{Booking}
 use Rattle.cp_core.specs.Store.{Store, StoreFits}
 use Rattle.cp_core.specs.Kept.{Keeps, PhaseFits}
-use Rattle.cp_core.specs.Honest.{SignedRow, last_of}
-use Rattle.cp_core.specs.Leaves.{numbers_below}
+use Rattle.cp_core.specs.Honest.{last_of}
 use Rattle.cp_core.specs.Machine.{State, Admissible, step, run_from}
 use Rattle.cp_core.specs.View.{Standing}
 use Rattle.cp_core.specs.declared.answer.Answer.{Answer}
@@ -28,10 +25,10 @@ use Rattle.cp_closer.specs.Laws.{log_at}
 use Rattle.cp_closer.specs.Closer.{seal_item}
 use Rattle.cp_closer.specs.declared.sealed_text.SealedText.{SealedText}
 use Rattle.cp_store.specs.Alike.{Alike}
-use Rattle.cp_store.specs.Closes.{Closes, IsClosed, closing_events}
+use Rattle.cp_store.specs.Closes.{IsClosed, closing_events}
 use Rattle.cp_store.proofs.Alikes.{alike_trans, steps_alike, runs_alike}
 use Rattle.cp_replay.specs.Printed.{at_line, call_line, close_refused, closed_line}
-use Rattle.cp_replay.specs.Replay.{Progress, printed, handed, enveloped, answered, after_call, closed, after_begin, after_close, after_line, after_lines, at_first, put_asked, put_signed}
+use Rattle.cp_replay.specs.Replay.{Progress, printed, handed, enveloped, after_call, after_close, after_line, after_lines, at_first, put_asked, put_signed}
 use Rattle.cp_replay.specs.Script.{LineFits}
 use Rattle.cp_replay.specs.Follows.{CanSign, Follows, MayWrite, SignsBelow}
 use Rattle.cp_replay.specs.declared.line.Line.{Line}

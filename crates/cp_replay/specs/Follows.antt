@@ -1,5 +1,5 @@
 -- A replay as it runs, beside the definition's progress (this project's own).
-use Rattle.std.specs.Prelude.{ℕ, ◌+◌, ◌^◌, ◌<◌, ◌≤◌, ◌≡◌, List, [], ◌∷◌, length, map, Some}
+use Rattle.std.specs.Prelude.{ℕ, ◌+◌, ◌^◌, ◌<◌, ◌≤◌, ◌≡◌, length, Some}
 use Rattle.lms_tree.specs.Secret.{Secret, leaves_of, public_of}
 use Rattle.cp_families.specs.Families as families
 use Rattle.cp_families.specs.Writers.{family_of}

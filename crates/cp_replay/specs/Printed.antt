@@ -1,7 +1,7 @@
 -- The printed line of each answer, without its end (this project's own).
 use Rattle.std.specs.Prelude.{ℕ, List, [], ◌++◌, Result, Ok, Err, codes, decimal}
 use Rattle.cp_statements.specs.Attestation.{Attestation, attestation_of}
-use Rattle.cp_statements.specs.Closing.{Closing, closing_of}
+use Rattle.cp_statements.specs.Closing.{Closing}
 use Rattle.cp_statements.specs.declared.kind.Kind.{Kind}
 use Rattle.cp_statements.specs.declared.kind.Kind.TheVariants as kind
 use Rattle.cp_core.specs.Booking.{Booking}

@@ -7,7 +7,6 @@ use Rattle.lms_tree.specs.declared.height.Height.{Height}
 use Rattle.lms_tree.specs.Secret.{Secret, leaves_of, public_of, signature}
 use Rattle.cp_statements.specs.Envelope.{envelope_text}
 use Rattle.cp_statements.specs.PutRequest.{put_request_text}
-use Rattle.cp_statements.specs.Attestation.{attestation_of}
 use Rattle.cp_statements.specs.Closing.{closing_of}
 use Rattle.cp_statements.specs.View.{put_request_view}
 use Rattle.cp_statements.specs.declared.kind.Kind.{Kind}
@@ -22,7 +21,6 @@ use Rattle.cp_core.specs.Machine.{State, opening, step, run_from}
 use Rattle.cp_core.specs.declared.answer.Answer.{Answer}
 use Rattle.cp_core.specs.declared.answer.Answer.TheVariants.{Booked, CallRefused, CloseRefused, Done, Text, NotClosed, NotNow}
 use Rattle.cp_core.specs.declared.chronicle.Chronicle.{Chronicle}
-use Rattle.cp_core.specs.declared.event.Event.{Event}
 use Rattle.cp_core.specs.declared.event.Event.TheVariants.{Call, Begin}
 use Rattle.cp_core.specs.declared.request.Request.{Request}
 use Rattle.cp_core.specs.declared.request.Request.TheVariants as request

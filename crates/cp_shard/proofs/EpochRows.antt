@@ -1,5 +1,5 @@
 -- What is gathered of the rows of an epoch is what the items have of each block.
-use Rattle.std.proofs.Common.{◌≡◌, ℕ, zero, suc, ◌+◌, ◌-◌, ◌<◌, ◌≤◌, Bool, true, false, cond, eqb, ◌||◌, List, [], ◌∷◌, ◌++◌, length, map, take, get_or, Option, Some, None, Result, Ok, Err, inl, inr, refl, sym, ap, subst, ◌∙◌, append_assoc, arith}
+use Rattle.std.proofs.Common.{◌≡◌, ℕ, ◌+◌, ◌-◌, ◌<◌, ◌≤◌, Bool, true, false, cond, eqb, ◌||◌, List, [], ◌∷◌, ◌++◌, map, Some, None, Ok, inl, inr, refl, sym, ap, subst, ◌∙◌, append_assoc, arith}
 use Rattle.std.specs.Prelude.{filter}
 use Rattle.std.specs.List.{list_any}
 use Rattle.std.specs.BTreeMap.{BTreeMap, IsOrdered, values}
@@ -21,11 +21,11 @@ use Rattle.cp_core.specs.declared.item.Item.{Item}
 use Rattle.cp_core.specs.declared.item.Item.TheVariants.{Row, Frozen}
 use Rattle.cp_core.specs.declared.frozen_block.FrozenBlock.{FrozenBlock}
 use Rattle.cp_core.proofs.RowLemmas.{spells_reads, freezes-append}
-use Rattle.cp_core.proofs.EpochLemmas.{Ordered, ordered, freezes_row, freezes_more, up_to_other, up_to_freeze, up_to_stays, in_push, in_other, in_freeze}
+use Rattle.cp_core.proofs.EpochLemmas.{ordered, freezes_row, freezes_more, up_to_other, up_to_freeze, up_to_stays, in_push, in_other}
 use Rattle.cp_core.proofs.TableLemmas.{rising_blocks, member_blocks}
 use Rattle.cp_shard.specs.declared.row_tip.RowTip.{RowTip}
 use Rattle.cp_shard.specs.Kept.{tip_of}
-use Rattle.cp_shard.specs.Gathered.{block_in, row_block, row_tip, tips_by, held_at, with_text, gained_at, Gathers, IsNextRow}
+use Rattle.cp_shard.specs.Gathered.{block_in, row_tip, held_at, with_text, gained_at, Gathers, IsNextRow}
 use Rattle.cp_shard.proofs.Ascending.{values_are}
 use Rattle.cp_shard.proofs.Holding.{rows_row, rows_frozen}
 

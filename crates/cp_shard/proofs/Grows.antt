@@ -1,12 +1,11 @@
 -- How the index of calls and the tips grow with a shard's items.
-use Rattle.std.proofs.Common.{◌≡◌, ◌⊎◌, ℕ, zero, suc, ◌+◌, ◌-◌, ◌<◌, ◌≤◌, Bool, true, false, cond, eqb, ◌&&◌, List, [], ◌∷◌, ◌++◌, length, take, Option, Some, None, Ok, inl, inr, refl, sym, ap, subst, ◌∙◌, arith}
-use Rattle.std.specs.Prelude.{IsSome}
+use Rattle.std.proofs.Common.{◌≡◌, ◌⊎◌, ℕ, zero, suc, ◌+◌, ◌-◌, ◌≤◌, Bool, true, false, cond, eqb, ◌&&◌, List, [], ◌∷◌, ◌++◌, length, take, Option, Some, None, Ok, inl, inr, refl, sym, ap, subst, ◌∙◌, arith}
 use Rattle.std.specs.declared.cmp.Ordering.{Ordering}
 use Rattle.std.specs.Ordering.{nat_cmp, ordering_then, is_eq}
 use Rattle.std.specs.BTreeMap.{BTreeMap, get, is_at}
 use Rattle.std.specs.List.{find, slice_get}
 use Rattle.std.specs.Option.{option_or}
-use Rattle.std.proofs.lemmas.List.{append-nil, length-append, length-map, map-append, take-append-le, take_all}
+use Rattle.std.proofs.lemmas.List.{length-append, length-map, map-append, take-append-le, take_all}
 use Rattle.std.proofs.lemmas.List.Folds.{find-append}
 use Rattle.std.proofs.lemmas.Bool.{cases_eq, eq-eqb, ne_eqb}
 use Rattle.std.proofs.lemmas.Map.Lookups.{CmpEqualImpliesEq, exact_pairs, exact_unsigned}
@@ -14,15 +13,15 @@ use Rattle.cp_bytes.specs.Hashes.{genesis, head, head_after}
 use Rattle.cp_statements.specs.Attestation.{Attestation}
 use Rattle.cp_statements.specs.Entry.{Entry, EntryFits, entry_of, entry_text}
 use Rattle.cp_statements.specs.View.{attestation_view}
-use Rattle.cp_tips.specs.Tip.{Tip, fresh}
+use Rattle.cp_tips.specs.Tip.{fresh}
 use Rattle.cp_chain.specs.Each.{Each}
 use Rattle.cp_chain.specs.Legal.{Put, is_call, latest, put_at, put_by}
 use Rattle.cp_chain.proofs.Chain.{head_after-append}
-use Rattle.cp_core.specs.Life.{RowItem, row_item, freezes, rows_of, in_epoch, entries, tip_after}
+use Rattle.cp_core.specs.Life.{RowItem, row_item, rows_of, in_epoch, entries, tip_after}
 use Rattle.cp_core.specs.Calls.{epoch_now, latest_of, head_of, attested}
 use Rattle.cp_core.specs.Honest.{IsItemOf}
 use Rattle.cp_core.specs.declared.item.Item.{Item}
-use Rattle.cp_core.specs.declared.item.Item.TheVariants.{Row, Frozen}
+use Rattle.cp_core.specs.declared.item.Item.TheVariants.{Frozen}
 use Rattle.cp_core.proofs.RowLemmas.{rows_of-append}
 use Rattle.cp_core.proofs.EpochLemmas.{row_same, row_other, freeze_rows, freezes_row, freezes_more, in_push, in_other, in_freeze, ordered}
 use Rattle.cp_core.proofs.CallLemmas.{latest_push}

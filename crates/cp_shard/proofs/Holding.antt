@@ -1,12 +1,11 @@
 -- The contents stay right as items come.
-use Rattle.std.proofs.Common.{◌≡◌, ◌≢◌, ℕ, ◌+◌, ◌-◌, ◌*◌, ◌/◌, ◌%◌, ◌<◌, ◌≤◌, Bool, true, false, cond, not, eqb, ◌&&◌, ◌||◌, List, [], ◌∷◌, ◌++◌, length, map, Option, Some, None, Result, Ok, Err, inl, inr, refl, sym, ap, subst, ◌∙◌, arith}
+use Rattle.std.proofs.Common.{◌≡◌, ℕ, ◌+◌, ◌-◌, ◌≤◌, Bool, true, false, cond, eqb, ◌&&◌, ◌||◌, List, [], ◌∷◌, ◌++◌, length, Option, Some, None, Result, Ok, Err, inl, inr, refl, sym, ap, subst, ◌∙◌, arith}
 use Rattle.std.specs.Prelude.{filter_map}
 use Rattle.std.specs.List.{list_any, cons_option}
-use Rattle.std.proofs.lemmas.List.{append-nil, length-set}
+use Rattle.std.proofs.lemmas.List.{append-nil}
 use Rattle.std.proofs.lemmas.List.Elements.{filter_map-append}
-use Rattle.std.proofs.lemmas.Bool.{cases_eq, eq-eqb, ne_eqb, false≢true}
+use Rattle.std.proofs.lemmas.Bool.{cases_eq, eq-eqb, ne_eqb}
 use Rattle.std.proofs.Math.Bool.{or-false}
-use Rattle.sha2.specs.Sha256.{sha256}
 use Rattle.cp_statements.specs.Entry.{Entry, entry_of}
 use Rattle.cp_chain.specs.Legal.{Put, latest, last_or, ok_and, put_by}
 use Rattle.cp_core.specs.Life.{RowItem, row_item, as_row, rows_in, rows_of}
@@ -14,15 +13,13 @@ use Rattle.cp_core.specs.Calls.{content_at, bytes_for, latest_of, puts_block, pa
 use Rattle.cp_core.specs.declared.content.Content.{Content}
 use Rattle.cp_core.specs.Kept.{IsContentOf}
 use Rattle.cp_core.specs.declared.item.Item.{Item}
-use Rattle.cp_core.specs.declared.item.Item.TheVariants.{Row, Frozen}
+use Rattle.cp_core.specs.declared.item.Item.TheVariants.{Frozen}
 use Rattle.cp_core.proofs.CallLemmas.{latest_push, latest_other, latest_freeze}
 use Rattle.cp_pages.specs.Extent.{Extent}
-use Rattle.cp_pages.specs.Pages.{Kept, Pages, pages_for, kept_at, content_of, IsLive, AreApart, IsPlaced, IsGivenBack, with_run, taken_pages, free_pages}
-use Rattle.cp_pages.proofs.Held.{apart-new, apart-sym, live-placed, content-apart, content-placed, taken-placed, taken-given}
+use Rattle.cp_pages.specs.Pages.{Pages, pages_for, taken_pages, free_pages}
 use Rattle.cp_shard.specs.Standings.{content_in}
 use Rattle.cp_shard.specs.Contents.{block_put, puts, put_blocks, contents_of, last_pages, IsLiveRun, AreApartRuns, HasContents}
-use Rattle.cp_shard.specs.Released.{IsReleased}
-use Rattle.cp_shard.proofs.PutPages.{any_push, last_push, puts_read, taken_get, taken_put}
+use Rattle.cp_shard.proofs.PutPages.{any_push, last_push, puts_read, taken_get}
 
 -- ---- the rows of more items
 

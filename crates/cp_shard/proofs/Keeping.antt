@@ -1,27 +1,26 @@
 -- All parts of a shard stay right together.
-use Rattle.std.proofs.Common.{◌≡◌, ℕ, zero, suc, ◌+◌, ◌-◌, ◌<◌, ◌≤◌, Bool, true, false, cond, eqb, List, [], ◌∷◌, ◌++◌, length, replicate, Option, Some, None, Ok, inl, inr, refl, sym, ap, subst, ◌∙◌, arith}
-use Rattle.std.specs.Prelude.{sum_by}
+use Rattle.std.proofs.Common.{◌≡◌, ℕ, zero, suc, ◌+◌, ◌-◌, ◌≤◌, cond, eqb, List, [], ◌∷◌, ◌++◌, length, replicate, Some, None, Ok, refl, sym, ap, subst, ◌∙◌, arith}
 use Rattle.std.specs.BTreeMap.{BTreeMap, get, is_at}
 use Rattle.std.proofs.lemmas.List.{length-append, length-replicate}
-use Rattle.std.proofs.lemmas.Bool.{cases_eq, eq-eqb, ne_eqb}
+use Rattle.std.proofs.lemmas.Bool.{eq-eqb, ne_eqb}
 use Rattle.sha2.specs.Sha256.{sha256}
 use Rattle.cp_statements.specs.Attestation.{Attestation}
-use Rattle.cp_statements.specs.Entry.{Entry, entry_of, entry_text}
+use Rattle.cp_statements.specs.Entry.{Entry, entry_of}
 use Rattle.cp_statements.specs.View.{attestation_view}
-use Rattle.cp_tips.specs.Tip.{Tip, fresh}
+use Rattle.cp_tips.specs.Tip.{fresh}
 use Rattle.cp_tips.specs.View.{tip_view}
-use Rattle.cp_chain.specs.Legal.{put_at, put_by, latest}
+use Rattle.cp_chain.specs.Legal.{latest}
 use Rattle.cp_chain.proofs.Each.{each_nil, each_push}
 use Rattle.cp_core.specs.Life.{RowItem, row_item, rows_of, in_epoch, freezes, tip_after}
-use Rattle.cp_core.specs.Calls.{epoch_now, head_of, attested, latest_of}
+use Rattle.cp_core.specs.Calls.{epoch_now, head_of, attested}
 use Rattle.cp_core.specs.Frozen.{tip_from}
-use Rattle.cp_core.specs.Honest.{IsItemOf, IsRowOf, SpellsEntry}
+use Rattle.cp_core.specs.Honest.{IsItemOf, IsRowOf}
 use Rattle.cp_core.specs.declared.item.Item.{Item}
-use Rattle.cp_core.specs.declared.item.Item.TheVariants.{Row, Frozen}
+use Rattle.cp_core.specs.declared.item.Item.TheVariants.{Frozen}
 use Rattle.cp_core.proofs.RowLemmas.{spells_reads}
 use Rattle.cp_core.proofs.EpochLemmas.{freezes_row, freezes_more}
 use Rattle.cp_pages.specs.Extent.{Extent}
-use Rattle.cp_pages.specs.Pages.{Pages, pages_for, bytes_of, taken_pages}
+use Rattle.cp_pages.specs.Pages.{Pages, pages_for, taken_pages}
 use Rattle.cp_shard.specs.declared.key.Key.{Key}
 use Rattle.cp_shard.specs.declared.call.Call.{Call}
 use Rattle.cp_shard.specs.declared.row_tip.RowTip.{RowTip}
@@ -31,7 +30,7 @@ use Rattle.cp_shard.specs.Contents.{HasContents}
 use Rattle.cp_shard.specs.Kept.{tip_of, Keeps, IsNext, key_of}
 use Rattle.cp_shard.specs.Gathered.{block_in, row_block, row_tip}
 use Rattle.cp_shard.specs.Places.{key_cmp, found_at, IsPlace}
-use Rattle.cp_shard.specs.Standings.{tip_or, run_or, tip_at, run_at, content_in}
+use Rattle.cp_shard.specs.Standings.{tip_at, run_at, content_in}
 use Rattle.cp_shard.proofs.Grows.{places_row, found_frozen, tip_row, tip_frozen}
 use Rattle.cp_shard.proofs.Holding.{has_same, has_none, has_frozen, has_get}
 use Rattle.cp_shard.proofs.Putting.{IsExchanged, with_content, content_put, has_put}

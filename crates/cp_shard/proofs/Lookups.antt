@@ -1,5 +1,5 @@
 -- What a look-up in a shard's maps says.
-use Rattle.std.proofs.Common.{◌≡◌, ℕ, ◌≤◌, List, [], ◌++◌, length, take, Option, Some, None, refl, sym, ap, subst, ◌∙◌, arith}
+use Rattle.std.proofs.Common.{◌≡◌, ℕ, List, ◌++◌, length, take, Option, Some, None, sym, ap, subst, ◌∙◌, arith}
 use Rattle.std.specs.List.{slice_get}
 use Rattle.std.specs.BTreeMap.{BTreeMap, get}
 use Rattle.std.specs.Ordering.{nat_cmp}
@@ -12,7 +12,7 @@ use Rattle.cp_shard.specs.declared.key.Key.{Key}
 use Rattle.cp_shard.specs.declared.call.Call.{Call}
 use Rattle.cp_shard.specs.declared.standing.Standing.{Standing}
 use Rattle.cp_shard.specs.Contents.{contents_of, put_blocks, IsLiveRun, HasContents}
-use Rattle.cp_shard.specs.Places.{found_at, IsCallAt, IsPlace, IsCallOf}
+use Rattle.cp_shard.specs.Places.{found_at, IsPlace, IsCallOf}
 use Rattle.cp_shard.specs.Standings.{run_or, run_at, content_in}
 use Rattle.cp_shard.proofs.Holding.{content_seen}
 

@@ -1,6 +1,6 @@
 -- What the appending of an entry rests on.
-use Rattle.std.proofs.Common.{◌≡◌, ℕ, suc, ◌+◌, ◌-◌, ◌<◌, ◌≤◌, Bool, true, false, cond, eqb, ◌&&◌, List, [], ◌∷◌, ◌++◌, length, Option, Some, None, Result, Ok, Err, refl, sym, ap, subst, ◌∙◌, arith}
-use Rattle.std.specs.Prelude.{filter, filter_map}
+use Rattle.std.proofs.Common.{◌≡◌, ℕ, suc, ◌+◌, ◌-◌, ◌≤◌, Bool, true, false, cond, eqb, List, [], ◌∷◌, ◌++◌, length, Option, Some, None, Result, Ok, refl, sym, ap, ◌∙◌, arith}
+use Rattle.std.specs.Prelude.{filter_map}
 use Rattle.std.specs.List.{cons_option}
 use Rattle.std.specs.BTreeMap.{BTreeMap, get}
 use Rattle.std.proofs.lemmas.List.Elements.{filter_map-append}
@@ -17,16 +17,13 @@ use Rattle.cp_pages.specs.Extent.{Extent}
 use Rattle.cp_pages.specs.Pages.{Pages}
 use Rattle.cp_shard.specs.declared.key.Key.{Key}
 use Rattle.cp_shard.specs.declared.call.Call.{Call}
-use Rattle.cp_shard.specs.declared.standing.Standing.{Standing}
 use Rattle.cp_shard.specs.Model.{ShardModel}
 use Rattle.cp_shard.specs.Booked.{key_by}
-use Rattle.cp_shard.specs.Contents.{block_put, puts, put_blocks, contents_of, IsLiveRun, HasContents}
-use Rattle.cp_shard.specs.Kept.{Keeps, IsNext, key_of}
+use Rattle.cp_shard.specs.Contents.{block_put, puts, put_blocks, contents_of, HasContents}
+use Rattle.cp_shard.specs.Kept.{IsNext, key_of}
 use Rattle.cp_shard.specs.Places.{key_cmp, found_at, IsPlace}
-use Rattle.cp_shard.specs.Standings.{run_at, content_in}
+use Rattle.cp_shard.specs.Standings.{content_in}
 use Rattle.cp_shard.proofs.Holding.{rows_row, view_same, content_seen}
-use Rattle.cp_pages.specs.Pages.{IsPlaced}
-use Rattle.cp_pages.proofs.Held.{content-placed}
 
 -- ---- the place of a new call is free
 

@@ -1,9 +1,8 @@
 -- The contents stay right as a put comes.
-use Rattle.std.proofs.Common.{◌≡◌, ◌≢◌, ℕ, ◌+◌, ◌-◌, ◌<◌, ◌≤◌, Bool, true, false, cond, eqb, ◌&&◌, ◌||◌, List, [], ◌∷◌, ◌++◌, length, set, Option, Some, None, Ok, inl, inr, refl, sym, ap, subst, ◌∙◌, arith}
+use Rattle.std.proofs.Common.{◌≡◌, ◌≢◌, ℕ, ◌+◌, ◌-◌, ◌<◌, ◌≤◌, Bool, true, false, cond, eqb, ◌&&◌, ◌||◌, List, [], ◌∷◌, ◌++◌, length, Option, Some, None, Ok, inl, inr, refl, sym, ap, subst, ◌∙◌, arith}
 use Rattle.std.specs.List.{list_any}
 use Rattle.std.proofs.lemmas.List.{length-set}
-use Rattle.std.proofs.lemmas.Bool.{cases_eq, eq-eqb, ne_eqb, false≢true}
-use Rattle.std.proofs.Math.Bool.{or-false}
+use Rattle.std.proofs.lemmas.Bool.{cases_eq, eq-eqb, ne_eqb}
 use Rattle.sha2.specs.Sha256.{sha256}
 use Rattle.cp_statements.specs.Entry.{Entry, entry_of}
 use Rattle.cp_chain.specs.Legal.{Put, put_by}
@@ -13,9 +12,9 @@ use Rattle.cp_core.specs.Kept.{IsContentOf}
 use Rattle.cp_core.specs.declared.item.Item.{Item}
 use Rattle.cp_core.proofs.CallLemmas.{latest_push, latest_other}
 use Rattle.cp_pages.specs.Extent.{Extent}
-use Rattle.cp_pages.specs.Pages.{Kept, Pages, pages_for, kept_at, content_of, IsLive, AreApart, IsPlaced, IsGivenBack, with_run, taken_pages}
+use Rattle.cp_pages.specs.Pages.{Kept, Pages, pages_for, kept_at, content_of, IsLive, IsPlaced, with_run, taken_pages}
 use Rattle.cp_pages.proofs.Runs.{with_run-empty, with_run-at}
-use Rattle.cp_pages.proofs.Held.{apart-new, apart-sym, live-placed, content-apart, content-placed, taken-placed, taken-given}
+use Rattle.cp_pages.proofs.Held.{apart-new, apart-sym, content-apart, content-placed, taken-placed, taken-given}
 use Rattle.cp_shard.specs.Standings.{content_in}
 use Rattle.cp_shard.specs.Contents.{last_pages, IsLiveRun, AreApartRuns, HasContents}
 use Rattle.cp_shard.specs.Released.{IsReleased}

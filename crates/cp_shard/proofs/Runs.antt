@@ -1,5 +1,5 @@
 -- What happens to the runs of a pool's contents.
-use Rattle.std.proofs.Common.{◌≡◌, ℕ, zero, suc, ◌+◌, ◌<◌, List, [], ◌∷◌, length, get_or, set, Option, None, refl, sym, ◌∙◌, ap, arith, inl, inr}
+use Rattle.std.proofs.Common.{◌≡◌, ℕ, zero, suc, ◌<◌, List, [], ◌∷◌, get_or, set, Option, None, refl, sym, ◌∙◌, ap, arith, inl, inr}
 use Rattle.std.proofs.lemmas.Bool.{cases_eq}
 use Rattle.cp_pages.specs.Extent.{Extent}
 use Rattle.cp_pages.specs.Pages.{Kept, Pages, kept_at, IsPlaced, IsGivenBack, with_run}

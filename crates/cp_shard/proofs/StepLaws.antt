@@ -1,10 +1,9 @@
 -- The shard's step, split into the calls that need no new entry and those that do.
-use Rattle.std.proofs.Common.{◌≡◌, ℕ, ◌+◌, ◌-◌, ◌*◌, ◌/◌, ◌%◌, ◌<◌, ◌≤◌, Bool, true, false, cond, not, eqb, ltb, ◌&&◌, List, [], ◌∷◌, ◌++◌, length, take, Option, Some, None, Result, Ok, Err, inl, inr, refl, sym, ap, subst, ◌∙◌, arith}
+use Rattle.std.proofs.Common.{◌≡◌, ℕ, ◌+◌, ◌-◌, Bool, true, false, cond, not, eqb, ltb, ◌&&◌, List, [], Option, Some, None, Result, refl, sym, ap, ◌∙◌, arith}
 use Rattle.std.specs.Prelude.{bytes_eq}
-use Rattle.std.proofs.lemmas.Bool.{cases_eq, eqb-true, eq-eqb, ne_eqb, not-false, false≢true}
-use Rattle.cp_bytes.specs.Hashes.{genesis, head_after}
+use Rattle.std.proofs.lemmas.Bool.{eqb-true, eq-eqb, ne_eqb, not-false, false≢true}
 use Rattle.cp_statements.specs.Attestation.{Attestation, attestation_text}
-use Rattle.cp_statements.specs.Entry.{Entry, entry_of, entry_text}
+use Rattle.cp_statements.specs.Entry.{Entry}
 use Rattle.cp_statements.specs.PutRequest.{put_request_text}
 use Rattle.cp_statements.specs.PutRequest as put_spec
 use Rattle.cp_statements.specs.GetRequest as get_spec
@@ -15,18 +14,17 @@ use Rattle.cp_statements.specs.View.{kind_byte, attestation_view, put_request_vi
 use Rattle.cp_statements.specs.declared.put_request.PutRequest.{PutRequest}
 use Rattle.cp_statements.specs.declared.get_request.GetRequest.{GetRequest}
 use Rattle.cp_tips.specs.Tip.{fresh}
-use Rattle.cp_chain.specs.Legal.{latest, put_at}
+use Rattle.cp_chain.specs.Legal.{latest}
 use Rattle.cp_core.specs.Booking.{Booking}
-use Rattle.cp_core.specs.Life.{RowItem, row_item, rows_of, entries, tip_after}
+use Rattle.cp_core.specs.Life.{RowItem, tip_after}
 use Rattle.cp_core.specs.Requests.{epoch_of, block_of, client_of, nonce_of, pages_of, request_text}
-use Rattle.cp_core.specs.Calls.{Outcome, epoch_now, latest_of, head_of, found, is_stale, again_entry, is_overtaken, asked_text, text_again, attested, content_for, content_at, pages_free, shard_step, with_leaf, at_found, first_refused, settled, unless_settled}
+use Rattle.cp_core.specs.Calls.{Outcome, epoch_now, latest_of, found, is_stale, again_entry, is_overtaken, asked_text, text_again, attested, content_for, content_at, pages_free, shard_step, with_leaf, at_found, first_refused, settled, unless_settled}
 use Rattle.cp_core.specs.declared.content.Content.{Content}
-use Rattle.cp_core.specs.Calls.Outcome.{Same, New}
+use Rattle.cp_core.specs.Calls.Outcome.{Same}
 use Rattle.cp_core.specs.declared.item.Item.{Item}
 use Rattle.cp_core.specs.declared.request.Request.{Request}
 use Rattle.cp_core.specs.declared.request.Request.TheVariants as ask
 use Rattle.cp_core.specs.declared.leaves_over.LeavesOver.{LeavesOver}
-use Rattle.cp_core.specs.declared.call_refusal.CallRefusal.{CallRefusal}
 use Rattle.cp_core.specs.declared.call_refusal.CallRefusal.TheVariants as refusal
 use Rattle.cp_core.specs.declared.answer.Answer.{Answer}
 use Rattle.cp_core.specs.declared.answer.Answer.TheVariants.{Booked, CallRefused}
@@ -34,8 +32,8 @@ use Rattle.cp_shard.specs.declared.key.Key.{Key}
 use Rattle.cp_shard.specs.declared.call.Call.{Call}
 use Rattle.cp_shard.specs.Asked.{asked_by}
 use Rattle.cp_shard.specs.Kept.{tip_of}
-use Rattle.cp_shard.specs.Places.{found_at, head_before, IsCallAt, IsCallOf}
-use Rattle.cp_shard.specs.Steps.{answer_in, early_at, early}
+use Rattle.cp_shard.specs.Places.{found_at, head_before, IsCallAt}
+use Rattle.cp_shard.specs.Steps.{early_at, early}
 use Rattle.cp_shard.proofs.Texts.{put_is_no_get, get_is_no_put}
 
 -- ---- the split

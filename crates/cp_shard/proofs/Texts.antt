@@ -1,5 +1,5 @@
 -- The text of a put request is none of a get request.
-use Rattle.std.proofs.Common.{◌≡◌, ℕ, List, false, refl}
+use Rattle.std.proofs.Common.{◌≡◌, false, refl}
 use Rattle.std.specs.Prelude.{bytes_eq}
 use Rattle.cp_bytes.specs.Fields.{spell}
 use Rattle.cp_statements.specs.PutRequest.{PutRequest, put_request_text}

@@ -1,5 +1,5 @@
 -- What is seen of a shard.
-use Rattle.std.proofs.Common.{◌≡◌, ℕ, ◌+◌, List, [], ◌∷◌, ◌++◌, refl, sym, ap, subst, ◌∙◌}
+use Rattle.std.proofs.Common.{◌≡◌, ℕ, ◌+◌, List, [], ◌∷◌, ◌++◌, sym, ap, subst, ◌∙◌}
 use Rattle.cp_core.specs.Calls.{epoch_now}
 use Rattle.cp_core.specs.declared.content.Content.{Content}
 use Rattle.cp_core.specs.declared.item.Item.{Item}

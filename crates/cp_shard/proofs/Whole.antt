@@ -1,18 +1,17 @@
 -- A whole call is the shard's step.
-use Rattle.std.proofs.Common.{◌≡◌, ℕ, ◌+◌, ◌-◌, ◌*◌, ◌/◌, ◌%◌, ◌^◌, ◌<◌, ◌≤◌, Bool, true, false, cond, not, eqb, ltb, ◌&&◌, List, [], ◌∷◌, ◌++◌, length, Option, Some, None, Result, Ok, Err, inl, inr, refl, sym, ap, subst, ◌∙◌, arith}
-use Rattle.std.proofs.lemmas.Bool.{and_parts, leb-true, lt-ltb, le-ltb, ltb-true, eqb-true, not-false}
-use Rattle.std.proofs.lemmas.List.{append-nil, length-map}
-use Rattle.std.specs.Prelude.{IsTrue, bytes_eq}
+use Rattle.std.proofs.Common.{◌≡◌, ℕ, ◌+◌, ◌-◌, ◌^◌, ◌<◌, ◌≤◌, Bool, true, false, cond, not, eqb, List, [], length, Option, Some, None, Result, Ok, Err, refl, sym, ap, subst, ◌∙◌, arith}
+use Rattle.std.proofs.lemmas.Bool.{and_parts, leb-true, lt-ltb, le-ltb, eqb-true, not-false}
+use Rattle.std.proofs.lemmas.List.{length-map}
+use Rattle.std.specs.Prelude.{bytes_eq}
 use Rattle.lms_ots.specs.declared.ots_type.OtsType.{OtsType}
 use Rattle.lms_ots.specs.declared.ots_type.OtsType.TheVariants.{W1, W2, W4, W8}
 use Rattle.lms_ots.specs.Parameters.{sig_len_of}
 use Rattle.lms_tree.specs.Verifying.{verifies}
 use Rattle.lms_tree.specs.PublicKey.{key_reads, key_lms, key_type, key_height}
 use Rattle.lms_tree.proofs.Testing.{verifies_tells}
-use Rattle.cp_bytes.specs.Hashes.{genesis, head_after}
 use Rattle.cp_statements.specs.Attestation.{Attestation, attestation_text}
 use Rattle.cp_statements.specs.Entry.{Entry, EntryFits, entry_of, entry_text}
-use Rattle.cp_statements.specs.View.{put_request_view, get_request_view}
+use Rattle.cp_statements.specs.View.{put_request_view}
 use Rattle.cp_statements.specs.PutRequest as put_spec
 use Rattle.cp_statements.specs.declared.put_request.PutRequest.{PutRequest}
 use Rattle.cp_statements.specs.declared.get_request.GetRequest.{GetRequest}
@@ -20,11 +19,10 @@ use Rattle.cp_tips.specs.Tip.{Tip}
 use Rattle.cp_chain.specs.Legal.{put_by}
 use Rattle.cp_families.specs.Checking.{SignedPut}
 use Rattle.cp_core.specs.Booking.{Booking}
-use Rattle.cp_core.specs.Life.{RowItem, row_item, rows_of, entries, tip_after, shard_of}
+use Rattle.cp_core.specs.Life.{RowItem, rows_of, tip_after, shard_of}
 use Rattle.cp_core.specs.Requests.{epoch_of, block_of, client_of, nonce_of, pages_of, request_text}
-use Rattle.cp_core.specs.Calls.{Outcome, epoch_now, latest_of, head_of, found, is_stale, again_entry, asked_text, is_overtaken, attested, new_entry, new_row, content_for, content_at, pages_free, shard_step, with_leaf, booked}
+use Rattle.cp_core.specs.Calls.{epoch_now, latest_of, head_of, found, is_stale, again_entry, asked_text, is_overtaken, attested, new_entry, content_for, content_at, pages_free, with_leaf, booked}
 use Rattle.cp_core.specs.Calls.Outcome.{Same, New}
-use Rattle.cp_core.specs.Honest.{SpellsEntry}
 use Rattle.cp_core.specs.Machine.{content_in, with_content}
 use Rattle.cp_core.proofs.ContentLemmas.{content_push}
 use Rattle.cp_core.specs.declared.content.Content.{Content}
@@ -36,14 +34,12 @@ use Rattle.cp_core.specs.declared.call_refusal.CallRefusal.{CallRefusal}
 use Rattle.cp_core.specs.declared.call_refusal.CallRefusal.TheVariants as refusal
 use Rattle.cp_core.specs.declared.answer.Answer.{Answer}
 use Rattle.cp_core.specs.declared.answer.Answer.TheVariants as spoken
-use Rattle.cp_pages.specs.Pages.{pages_for}
 use Rattle.cp_shard.specs.Model.{ShardModel}
 use Rattle.cp_shard.specs.Kept.{tip_of, IsNext, key_of}
 use Rattle.cp_shard.specs.Places.{found_at}
 use Rattle.cp_shard.specs.Refusals.{IsLate}
-use Rattle.cp_shard.specs.Steps.{answer_in, early_at, early, said, put_of, step_of, Refuses, OnMemory, HasBooking, MayHaveBooking, IsSaid}
-use Rattle.cp_shard.proofs.PutPages.{pages_is}
-use Rattle.cp_shard.proofs.StepLaws.{late, or_late, split, IsPassed, passed, found_is}
+use Rattle.cp_shard.specs.Steps.{early_at, early, put_of, step_of, Refuses, OnMemory, IsSaid}
+use Rattle.cp_shard.proofs.StepLaws.{late, or_late, split, passed, found_is}
 
 -- ---- which refusals come early
 

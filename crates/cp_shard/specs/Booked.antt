@@ -1,5 +1,5 @@
 -- What an attestation says of its block and its call.
-use Rattle.std.specs.Prelude.{ℕ, ◌+◌}
+use Rattle.std.specs.Prelude.{◌+◌}
 use Rattle.cp_statements.specs.Attestation.{Attestation}
 use Rattle.cp_tips.specs.Tip.{Tip}
 use Rattle.cp_shard.specs.declared.key.Key.{Key}

@@ -1,5 +1,5 @@
 -- The contents of a shard's blocks, and the pages that they take.
-use Rattle.std.specs.Prelude.{ℕ, ◌≡◌, ◌≢◌, Bool, false, List, [], ◌∷◌, map, length, Option, Some, None, Result, Ok, Err, ◌==◌, ◌&&◌, if◌then◌else◌, filter_map}
+use Rattle.std.specs.Prelude.{ℕ, ◌≡◌, ◌≢◌, false, List, [], map, length, Option, Some, None, Result, Ok, Err, ◌==◌, if◌then◌else◌, filter_map}
 use Rattle.std.specs.List.{list_any}
 use Rattle.cp_statements.specs.Entry.{Entry, entry_of}
 use Rattle.cp_chain.specs.Legal.{last_or}

@@ -6,7 +6,7 @@ use Rattle.std.specs.BTreeMap.{BTreeMap, get}
 use Rattle.std.specs.Ordering.{nat_cmp}
 use Rattle.cp_statements.specs.Entry.{Entry, entry_of}
 use Rattle.cp_chain.specs.Each.{Each}
-use Rattle.cp_core.specs.Life.{RowItem, row_item, rows_in, freezes, is_of_block, is_of_epoch}
+use Rattle.cp_core.specs.Life.{RowItem, row_item, rows_in, is_of_block, is_of_epoch}
 use Rattle.cp_core.specs.Calls.{epoch_now}
 use Rattle.cp_core.specs.Frozen.{Gained, gained_view, tip_from, frozen_block, blocks_in}
 use Rattle.cp_core.specs.Honest.{IsItemOf}

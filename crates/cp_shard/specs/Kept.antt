@@ -1,5 +1,5 @@
 -- What the parts of a shard keep of its items.
-use Rattle.std.specs.Prelude.{ℕ, ◌≡◌, ◌+◌, ◌-◌, ◌<◌, ◌≤◌, ◌^◌, List, length, None}
+use Rattle.std.specs.Prelude.{ℕ, ◌≡◌, ◌+◌, ◌-◌, ◌≤◌, List, length, None}
 use Rattle.std.specs.BTreeMap.{BTreeMap, get}
 use Rattle.cp_statements.specs.Entry.{Entry}
 use Rattle.cp_statements.specs.Attestation.{Attestation}

@@ -1,5 +1,5 @@
 -- What a call does to a shard, by the shard's step (this project's own).
-use Rattle.std.specs.Prelude.{ℕ, ◌≡◌, ◌≤◌, Bool, not, List, [], ◌∷◌, Option, Some, None, Result, Ok, Err, ◌==◌, if◌then◌else◌}
+use Rattle.std.specs.Prelude.{ℕ, ◌≡◌, ◌≤◌, not, List, [], ◌∷◌, Option, Some, None, Result, Ok, Err, ◌==◌, if◌then◌else◌}
 use Rattle.cp_statements.specs.Entry.{entry_of}
 use Rattle.cp_families.specs.Checking.{SignedPut}
 use Rattle.cp_core.specs.Booking.{Booking}

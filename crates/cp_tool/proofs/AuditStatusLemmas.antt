@@ -16,13 +16,13 @@ use Rattle.cp_evidence.specs.Verdict.{guilt, verdict_by}
 use Rattle.cp_evidence.proofs.AuditLemmas.{clean_exact}
 use Rattle.cp_evidence.proofs.GivenFacts.{given_all}
 use Rattle.cp_guilt.proofs.HonestLemmas.{honest_clean}
-use Rattle.cp_tool.specs.AuditRuns.{AnswerEnds, AuditEnds, AuditFiles, Sources, answered, files_in, sources_of, verdict_of}
+use Rattle.cp_tool.specs.AuditRuns.{AnswerEnds, AuditEnds, Sources, answered, files_in, sources_of, verdict_of}
 use Rattle.cp_tool.specs.AuditStatus.{AuditStatus, IsHonest, Readable}
 use Rattle.cp_tool.specs.AuditWords.{AuditWords}
 use Rattle.cp_tool.specs.Commands.{Command}
 use Rattle.cp_tool.specs.Commands.Command.{Audit}
 use Rattle.cp_tool.specs.Endings.{Outcome, bad_key}
-use Rattle.cp_tool.specs.Folders.{Files, KeepsAll, Stops}
+use Rattle.cp_tool.specs.Folders.{Files}
 use Rattle.cp_tool.specs.Reports.{Reports}
 use Rattle.cp_tool.specs.PutRuns.{CommandEnds}
 use Rattle.cp_outside.specs.declared.disk.Disk as disk

@@ -1,12 +1,10 @@
 -- How `audit` ends, from the verdict on what was read.
-use Rattle.std.proofs.Common.{◌≡◌, ◌⊎◌, inl, inr, ℕ, Bool, true, false, List, Some, None, Result, Ok, Err, refl, sym, ap, subst, ◌∙◌, arith}
-use Rattle.std.specs.Prelude.{IsTrue}
+use Rattle.std.proofs.Common.{◌≡◌, ◌⊎◌, inl, inr, ℕ, true, false, List, Some, Result, Ok, Err, refl, sym, ap, subst, ◌∙◌}
 use Rattle.cp_bytes.specs.Fields.{◌>>=◌}
-use Rattle.cp_outside.specs.Causes.{Rose}
 use Rattle.lms_tree.specs.PublicKey.{key_reads}
 use Rattle.cp_evidence.specs.Audited.{audited}
 use Rattle.cp_evidence.specs.Conditions.{Convicts}
-use Rattle.cp_evidence.specs.Evidence.{Evidence, evidence_of, evidence_text}
+use Rattle.cp_evidence.specs.Evidence.{Evidence, evidence_of}
 use Rattle.cp_evidence.specs.Material.{Material}
 use Rattle.cp_evidence.specs.Verdict as spec
 use Rattle.cp_audit.specs.Verdicts.{GuiltyConvicts, IsAnswer}
@@ -15,19 +13,19 @@ use Rattle.cp_audit.specs.declared.refusal.AuditRefusal.TheVariants as refusal
 use Rattle.cp_audit.specs.declared.verdict.Verdict.{Verdict}
 use Rattle.cp_audit.specs.declared.verdict.Verdict.TheVariants.{Clean, Guilty}
 use Rattle.cp_audit.specs.declared.what.What.{What}
-use Rattle.cp_tool.specs.AuditAnswers.{Answers, Spells, WritesEvidence}
-use Rattle.cp_tool.specs.AuditEndings.{clean, guilt_of, guilty}
+use Rattle.cp_tool.specs.AuditAnswers.{Answers, WritesEvidence}
+use Rattle.cp_tool.specs.AuditEndings.{clean}
 use Rattle.cp_tool.specs.AuditInputs.{ReadsSources, sources_view}
 use Rattle.cp_tool.specs.AuditRuns.{AnswerEnds, AuditEnds, Sources, sources_of, verdict_of}
 use Rattle.cp_tool.specs.AuditWords.{AuditWords}
-use Rattle.cp_tool.specs.Endings.{Outcome, bad_key, fault, no_memory}
+use Rattle.cp_tool.specs.Endings.{Outcome, no_memory}
 use Rattle.cp_tool.specs.Folders.{Files, KeepsAll, Stops}
 use Rattle.cp_tool.specs.View.{ending_view}
 use Rattle.cp_tool.proofs.InputLemmas.{rose_before}
 use Rattle.cp_tool.specs.declared.audit_ending.AuditEnding.TheVariants as audit_ending
 use Rattle.cp_tool.specs.declared.audit_sources.Sources as code
 use Rattle.cp_tool.specs.declared.ending.Ending.{Ending}
-use Rattle.cp_tool.specs.declared.ending.Ending.TheVariants.{Audited, BadKey, NoMemory}
+use Rattle.cp_tool.specs.declared.ending.Ending.TheVariants.{Audited, BadKey}
 
 -- ---- the verdict
 

@@ -1,6 +1,6 @@
 -- How the commands of the client end, from what their steps gave.
-use Rattle.std.proofs.Common.{◌≡◌, ◌⊎◌, inl, inr, ℕ, ◌-◌, ◌+◌, ◌<◌, ◌≤◌, Bool, true, false, cond, List, ◌++◌, Option, Some, None, Result, Ok, Err, length, take, refl, sym, ap, ◌∙◌, subst, arith, length-append}
-use Rattle.std.specs.Prelude.{◌≢◌, IsTrue, nat_lt, IfErr}
+use Rattle.std.proofs.Common.{◌≡◌, ◌⊎◌, inl, inr, ℕ, ◌-◌, ◌+◌, ◌<◌, ◌≤◌, false, List, ◌++◌, Some, Result, Ok, Err, length, take, refl, ap, ◌∙◌, subst, arith, length-append}
+use Rattle.std.specs.Prelude.{◌≢◌, IsTrue}
 use Rattle.std.specs.Global.{Vec}
 use Rattle.std.proofs.lemmas.Bool.{le-ltb}
 use Rattle.std.proofs.lemmas.List.{take_at}
@@ -14,25 +14,23 @@ use Rattle.lms_tree.specs.Secret.{Secret, public_of, leaves_of}
 use Rattle.lms_tree.specs.declared.height.Height.{Height}
 use Rattle.lms_tree.specs.declared.height.Height.TheVariants.{H5, H10, H15}
 use Rattle.lms_tree.specs.Verifying.{verifies}
-use Rattle.cp_statements.specs.Attestation.{Attestation, attestation_of}
-use Rattle.cp_statements.specs.Envelope.{Envelope, envelope_text, envelope_at}
+use Rattle.cp_statements.specs.Attestation.{attestation_of}
+use Rattle.cp_statements.specs.Envelope.{envelope_text, envelope_at}
 use Rattle.cp_statements.specs.GetRequest.{get_request_text}
 use Rattle.cp_statements.specs.PutRequest.{PutRequest}
 use Rattle.cp_statements.proofs.Entries.{envelope_at_takes}
 use Rattle.cp_client.specs.Asking.{Asked, asked_of}
 use Rattle.cp_client.specs.Accepting.{Accepted, accept_of, read_or_refused, must, same_call, other_field, content_fits, head_fits}
-use Rattle.cp_client.specs.View.{accepted_view}
-use Rattle.cp_client.specs.declared.field.Field.{Field}
 use Rattle.cp_client.specs.declared.refusals.ClientRefusal.{ClientRefusal}
 use Rattle.cp_client.specs.declared.refusals.ClientRefusal.TheVariants.{BadSignature, ContentMismatch, BadHead}
 use Rattle.cp_tool.specs.ClientWords.{PutWords, GetWords, AcceptWords}
 use Rattle.cp_tool.specs.Endings.{Outcome, bad_key, fault, no_memory}
 use Rattle.cp_tool.specs.ClientEndings.{asked_get}
-use Rattle.cp_tool.specs.ClientInputs.{three_view, ReadsThree, GivesThree, JudgesPut, WritesBoth, WritesEnds}
-use Rattle.cp_tool.specs.ClientRuns.{Three, Input, three_of, key_in, get_request, get_asked, GetEnds, AskGetEnds, asked_or_refused, accepted_or_refused, acceptance_of, accept_inputs, WritesAccepted, AcceptanceEnds, AcceptEnds}
+use Rattle.cp_tool.specs.ClientInputs.{three_view, ReadsThree, JudgesPut, WritesEnds}
+use Rattle.cp_tool.specs.ClientRuns.{Three, Input, three_of, key_in, get_request, get_asked, GetEnds, AskGetEnds, asked_or_refused, accepted_or_refused, acceptance_of, accept_inputs, AcceptanceEnds, AcceptEnds}
 use Rattle.cp_tool.specs.Folders.{Files, input_of, Stops, KeepsAll, KeepsOthers}
 use Rattle.cp_tool.specs.Inputs.{ReadsInput}
-use Rattle.cp_tool.specs.PutRuns.{PutParts, put_parts, put_request, put_inputs, put_body, LeafEnds, PutDraws, PutEnds, AskPutEnds, DrawsLeaf}
+use Rattle.cp_tool.specs.PutRuns.{PutParts, put_parts, put_request, put_inputs, LeafEnds, PutEnds, AskPutEnds, DrawsLeaf}
 use Rattle.cp_tool.specs.Runs.{secret_in}
 use Rattle.cp_tool.specs.View.{ending_view}
 use Rattle.cp_tool.specs.declared.ending.Ending.{Ending}

@@ -1,8 +1,7 @@
 -- No ending of a command of the client has the status 2.
-use Rattle.std.proofs.Common.{◌≡◌, ◌⊎◌, inl, inr, ⊎_elim, ℕ, Bool, true, false, cond, List, Option, Some, None, Result, Ok, Err, length, refl, sym, ap, ◌∙◌, subst, arith}
+use Rattle.std.proofs.Common.{◌≡◌, ◌⊎◌, inl, inr, ℕ, Bool, true, false, List, Option, Some, None, Result, Ok, Err, length, refl, sym, ap, ◌∙◌, arith}
 use Rattle.std.specs.Prelude.{nat_lt, IfErr}
 use Rattle.cp_bytes.specs.Fields.{◌>>=◌}
-use Rattle.cp_outside.specs.Causes.{Rose}
 use Rattle.cp_outside.specs.declared.disk.Disk as disk
 use Rattle.lms_tree.specs.PublicKey.{key_reads}
 use Rattle.cp_client.specs.Asking.{Asked, asked_of}
@@ -10,7 +9,7 @@ use Rattle.cp_client.specs.Accepting.{Accepted, accept_of}
 use Rattle.cp_client.specs.declared.refusals.ClientRefusal.{ClientRefusal}
 use Rattle.cp_client.specs.declared.refusals.ClientRefusal.TheVariants.{Malformed, BadSignature, OtherCall, ContentMismatch, BadHead}
 use Rattle.cp_tool.specs.ClientWords.{PutWords, GetWords, AcceptWords}
-use Rattle.cp_tool.specs.Endings.{Outcome, short_seed, bad_key, fault}
+use Rattle.cp_tool.specs.Endings.{Outcome, fault}
 use Rattle.cp_tool.specs.ClientEndings.{refused}
 use Rattle.cp_tool.specs.ClientRuns.{Three, Input, three_of, key_in, get_asked, GetEnds, AskGetEnds, asked_or_refused, accepted_or_refused, acceptance_of, accept_inputs, AcceptanceEnds, AcceptEnds}
 use Rattle.cp_tool.specs.Folders.{Files, input_of, Stops, KeepsAll}

@@ -1,5 +1,5 @@
 -- What drawing a leaf does to the vault's disk, from what opening and reserving do.
-use Rattle.std.proofs.Common.{◌≡◌, ◌⊎◌, inl, inr, ⊎_elim, ℕ, ◌+◌, ◌<◌, ◌≤◌, Bool, true, false, List, Option, Some, Result, Ok, Err, refl, sym, ap, ◌∙◌, subst, arith}
+use Rattle.std.proofs.Common.{◌≡◌, ◌⊎◌, inl, inr, ℕ, ◌+◌, ◌<◌, ◌≤◌, Bool, true, false, List, Result, Ok, Err, refl, sym, ap, ◌∙◌, subst, arith}
 use Rattle.std.specs.Prelude.{IsTrue, IsErr, nat_lt}
 use Rattle.std.proofs.lemmas.Bool.{lt-ltb, le-ltb, ltb-false}
 use Rattle.cp_bytes.specs.Fields.{◌>>=◌}
@@ -11,7 +11,7 @@ use Rattle.key_vault.specs.declared.faults.VaultFault.TheVariants as vault
 use Rattle.cp_tool.specs.ClientEndings.{over}
 use Rattle.cp_tool.specs.ClientInputs.{OpensVault}
 use Rattle.cp_tool.specs.Endings.{Outcome, fault}
-use Rattle.cp_tool.specs.PutRuns.{number_before, leaf_after, next_leaf, HoldsNumber, DrawsLeaf}
+use Rattle.cp_tool.specs.PutRuns.{number_before, leaf_after, next_leaf, DrawsLeaf}
 
 -- a number, or an ending
 abbrev number_is : ℕ → Result ℕ Outcome

@@ -1,26 +1,25 @@
 -- How `replay` ends, from what its steps gave.
-use Rattle.std.proofs.Common.{◌≡◌, ◌⊎◌, inl, inr, ℕ, ◌≤◌, Bool, true, false, List, Option, Result, Ok, Err, length, refl, sym, ap, subst, ◌∙◌, arith}
+use Rattle.std.proofs.Common.{◌≡◌, ◌⊎◌, inl, inr, ℕ, ◌≤◌, true, false, List, Option, Result, Ok, Err, length, refl, sym, ap, ◌∙◌}
 use Rattle.std.specs.Prelude.{nat_lt}
 use Rattle.std.specs.Global.{Vec}
 use Rattle.std.proofs.lemmas.Bool.{le-ltb}
 use Rattle.cp_bytes.specs.Fields.{◌>>=◌}
-use Rattle.cp_outside.specs.Causes.{Rose}
 use Rattle.cp_replay.specs.Replay as replay
 use Rattle.cp_replay.specs.Replay.{replayed}
 use Rattle.cp_replay.specs.Script.{script_of}
 use Rattle.cp_replay.specs.View.{outcome_view}
 use Rattle.cp_replay.specs.declared.line.Line.{Line}
 use Rattle.cp_replay.specs.declared.replayed.Replayed.{Replayed}
-use Rattle.cp_tool.specs.Endings.{Outcome, fault, no_memory, malformed, printed}
+use Rattle.cp_tool.specs.Endings.{Outcome, printed}
 use Rattle.cp_tool.specs.Folders.{Files, KeepsAll, Stops, input_of}
 use Rattle.cp_tool.specs.Inputs.{ReadsInput}
 use Rattle.cp_tool.specs.ReplayFiles.{StopsAt, WritesAll, writes_of, content_after}
 use Rattle.cp_tool.specs.ReplayInputs.{GivesReplay, GivesMade, MakesReplay, WritesReplay}
-use Rattle.cp_tool.specs.ReplayRuns.{ReplayEnds, WrittenEnds, making, replay_by, replay_in, replay_made}
+use Rattle.cp_tool.specs.ReplayRuns.{ReplayEnds, WrittenEnds, making, replay_in, replay_made}
 use Rattle.cp_tool.specs.ReplayWords.{ReplayWords}
 use Rattle.cp_tool.specs.View.{ending_view}
 use Rattle.cp_tool.specs.declared.ending.Ending.{Ending}
-use Rattle.cp_tool.specs.declared.ending.Ending.TheVariants.{ShortSeed, Malformed, NoMemory}
+use Rattle.cp_tool.specs.declared.ending.Ending.TheVariants.{ShortSeed, Malformed}
 use Rattle.cp_tool.proofs.InputLemmas.{rose_before}
 
 -- ---- the replay

@@ -1,5 +1,5 @@
 -- No ending of `replay` has the status 2, and one with 4 is a fault that was counted.
-use Rattle.std.proofs.Common.{◌≡◌, ◌⊎◌, inl, inr, ℕ, Bool, true, false, List, Option, Some, None, Result, Ok, Err, length, refl, ap, arith}
+use Rattle.std.proofs.Common.{◌≡◌, inl, inr, ℕ, Bool, true, false, List, Option, Some, None, Result, Ok, Err, length, refl, ap, arith}
 use Rattle.std.specs.Prelude.{nat_lt}
 use Rattle.cp_bytes.specs.Fields.{◌>>=◌}
 use Rattle.cp_outside.specs.Causes.{Rose}

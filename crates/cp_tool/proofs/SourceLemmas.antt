@@ -1,12 +1,12 @@
 -- Reading the files of an audit, one after another.
-use Rattle.std.proofs.Common.{◌≡◌, ◌⊎◌, inl, inr, ℕ, ◌≤◌, Bool, List, [], Option, Some, None, Result, Ok, Err, refl, sym, ap, subst, ◌∙◌, arith}
+use Rattle.std.proofs.Common.{◌≡◌, inl, inr, ℕ, ◌≤◌, Bool, List, [], Option, Some, None, Result, Ok, Err, refl, sym, ap, subst, ◌∙◌, arith}
 use Rattle.std.specs.Prelude.{IsTrue}
 use Rattle.std.specs.Global.{Vec}
 use Rattle.cp_tool.specs.AuditInputs.{Follows, GivesBytes, ReadsSource}
 use Rattle.cp_tool.specs.AuditRuns.{Input, AuditFiles, bytes_of, content_at, named, own, own_before, sources_of}
 use Rattle.cp_tool.specs.AuditWords.{AuditWords, epoch_file}
 use Rattle.cp_tool.specs.Endings.{Outcome}
-use Rattle.cp_tool.specs.Folders.{Files, KeepsAll, Stops}
+use Rattle.cp_tool.specs.Folders.{Files, KeepsAll}
 use Rattle.cp_tool.specs.Inputs.{GivesInput, ReadsInput}
 use Rattle.cp_tool.specs.declared.audit_ending.AuditEnding.TheVariants.{Missing}
 use Rattle.cp_tool.specs.declared.ending.Ending.{Ending}

@@ -18,7 +18,7 @@ use Rattle.cp_judge.specs.declared.judgement.Judgement.TheVariants.{BadKey, Malf
 use Rattle.cp_judge.proofs.Guilt.{guilty}
 use Rattle.cp_tool.specs.Commands.{Command}
 use Rattle.cp_tool.specs.Commands.Command.{Judge, Verify, Keygen, AskPut, AskGet, Accept, Audit, Replay}
-use Rattle.cp_tool.specs.PutRuns.{CommandEnds, AskPutEnds, IsAskPut}
+use Rattle.cp_tool.specs.PutRuns.{CommandEnds, IsAskPut}
 use Rattle.cp_tool.proofs.ClientStatus.{ask_put_not2, ask_get_not2, accept_not2}
 use Rattle.cp_tool.proofs.FaultLemmas.{command_4}
 use Rattle.cp_tool.proofs.AuditRefusals.{audit_not2}

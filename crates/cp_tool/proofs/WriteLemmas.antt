@@ -1,14 +1,13 @@
 -- A replay's files: which they are, and a folder while they are written one after another.
-use Rattle.std.proofs.Common.{◌≡◌, ℕ, Bool, true, false, cond, suc, ◌+◌, ◌<◌, ◌≤◌, List, [], ◌∷◌, ◌++◌, Option, Some, length, take, drop, get_or, map, string_bytes, refl, sym, ap, subst, ◌∙◌, arith, drop-cons}
+use Rattle.std.proofs.Common.{◌≡◌, ℕ, Bool, true, false, cond, suc, ◌+◌, ◌<◌, ◌≤◌, List, [], ◌∷◌, ◌++◌, Option, Some, length, take, drop, get_or, map, string_bytes, refl, sym, ap, ◌∙◌, arith, drop-cons}
 use Rattle.std.specs.Prelude.{◌≢◌, bytes_eq, IsTrue}
-use Rattle.std.specs.Global.{Vec}
 use Rattle.std.proofs.Math.Seq.{split_at}
 use Rattle.std.proofs.lemmas.Bool.Decides.{not_from_Decides}
 use Rattle.std.proofs.lemmas.List.{drop_all, take_all, map_push, map_more, map-append, append_assoc, append-nil}
 use Rattle.std.proofs.lemmas.Slice.Eq.{bytes_eq-Decides}
 use Rattle.cp_outside.specs.Causes.{Rose}
 use Rattle.cp_replay.specs.declared.epoch_files.EpochFiles.{EpochFiles}
-use Rattle.cp_tool.specs.Folders.{Files, KeepsAll}
+use Rattle.cp_tool.specs.Folders.{Files}
 use Rattle.cp_tool.specs.ReplayFiles.{FileWrite, StopsAt, WritesAll, content_after, epoch_writes, epochs_writes, write_of}
 use Rattle.cp_tool.specs.ReplayView.{write_view}
 use Rattle.cp_tool.specs.declared.file_write.FileWrite as code

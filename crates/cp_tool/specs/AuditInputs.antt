@@ -1,5 +1,5 @@
 -- What reading the files of an audit gives.
-use Rattle.std.specs.Prelude.{ℕ, ◌≡◌, ◌⊎◌, ◌≤◌, Bool, List, Option, Some, None, Result, Ok, Err, IsTrue}
+use Rattle.std.specs.Prelude.{ℕ, ◌≡◌, ◌⊎◌, ◌≤◌, Bool, List, Option, Result, Ok, Err, IsTrue}
 use Rattle.std.specs.Global.{Vec}
 use Rattle.cp_tool.specs.AuditRuns as spec
 use Rattle.cp_tool.specs.AuditRuns.{Input, AuditFiles, content_at, bytes_of, files_in, sources_of}

@@ -1,5 +1,5 @@
 -- What the steps of the client's commands give.
-use Rattle.std.specs.Prelude.{ℕ, ◌≡◌, ◌≢◌, ◌⊎◌, ◌+◌, ◌≤◌, ◌<◌, Bool, false, List, length, Option, Some, Result, Ok, Err, IfOk, IfErr, IsErr, IsTrue, nat_lt}
+use Rattle.std.specs.Prelude.{ℕ, ◌≡◌, ◌≢◌, ◌⊎◌, ◌≤◌, ◌<◌, List, length, Option, Some, Result, Ok, Err, IfOk, IfErr, IsErr, IsTrue}
 use Rattle.sha2.specs.Sha256.{sha256}
 use Rattle.cp_outside.specs.Causes.{Rose}
 use Rattle.cp_outside.specs.declared.disk.Disk as disk

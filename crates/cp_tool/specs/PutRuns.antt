@@ -1,6 +1,6 @@
 -- How the command `ask-put` ends, over its folder and the vault's disk, and with it all commands (this
 -- project's own).
-use Rattle.std.specs.Prelude.{ℕ, ◌≡◌, ◌≢◌, ◌⊎◌, ◌+◌, ◌<◌, ◌≤◌, List, length, Option, Some, Result, Ok, Err, IfOk, IfErr, IsErr, nat_lt, if◌then◌else◌, IsTrue}
+use Rattle.std.specs.Prelude.{ℕ, ◌≡◌, ◌⊎◌, ◌+◌, ◌<◌, ◌≤◌, List, length, Option, Some, Result, Ok, Err, IfOk, IfErr, IsErr, nat_lt, if◌then◌else◌, IsTrue}
 use Rattle.sha2.specs.Sha256.{sha256}
 use Rattle.cp_bytes.specs.Fields.{◌>>=◌}
 use Rattle.cp_outside.specs.Causes.{Rose}

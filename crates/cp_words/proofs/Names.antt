@@ -1,10 +1,10 @@
 -- The names in a text, one after another.
 use Rattle.std.proofs.Common.{◌≡◌, ℕ, ◌<◌, List, [], ◌∷◌, length, get_or, ◌==◌, Bool, true, false, All, refl, arith}
 use Rattle.std.specs.Prelude.{not}
-use Rattle.std.specs.List.{slice_split, list_any, position_or_len, before_first, after_first}
+use Rattle.std.specs.List.{position_or_len, before_first, after_first}
 use Rattle.std.proofs.lemmas.List.Splits.{slice_split_none, slice_split_first}
 use Rattle.std.proofs.lemmas.List.Sums.{prefix_len_passes}
-use Rattle.cp_words.specs.Pairs.{names_in, is_among}
+use Rattle.cp_words.specs.Pairs.{names_in}
 
 abbrev is_space : ℕ → Bool
 is_space = λ byte. byte == 32

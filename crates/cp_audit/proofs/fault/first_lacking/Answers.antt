@@ -32,8 +32,7 @@ loop-i-preserved c =
     let lt : c.loop-i.i < length after = omega (arith, c.loop-i-test.true, c.count-i-end.ensures) in
     let test = lacks_is before after parts c.loop-i.i block c.count_at_place.result c.count_at.result up lt c.block-block.ensures c.count_at_place.ensures c.count_at.ensures in
     let none : lacks before after parts (get_or (blocks_in after) c.loop-i.i 0) ≡ false = ap (lacks before after parts) (sym c.block-block.ensures) ∙ test ∙ sym c.lacks.ensures ∙ c.if-lacks.false in
-    let below = subst (λ (b : ℕ). AreBelow before b place) c.block-block.ensures c.place_from-place.ensures.below in
-    (
+    let below = subst (λ (b : ℕ). AreBelow before b place) c.block-block.ensures c.place_from-place.ensures.below in (
       below_more (λ (k : ℕ). lacks before after parts (get_or (blocks_in after) k 0) ≡ false) c.loop-i.i c.loop-i.invariant.0 none,
       c.place_from-place.ensures.within,
       λ next. below_next after before c.loop-i.i (c.loop-i.i + 1) place (omega arith) up below next,

@@ -1,4 +1,3 @@
-use Rattle.std.proofs.Common.{length}
 use Rattle.cp_pages.proofs.Chains.{IsReadTo}
 use Rattle.cp_pages.proofs.chain.read.Given as goal
 

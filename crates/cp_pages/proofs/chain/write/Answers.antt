@@ -1,4 +1,4 @@
-use Rattle.std.proofs.Common.{◌≡◌, ◌*◌, ◌-◌, ◌<◌, length, take, drop, ap, refl, arith, add-one}
+use Rattle.std.proofs.Common.{◌≡◌, ◌*◌, ◌-◌, ◌<◌, length, take, drop, ap, arith, add-one}
 use Rattle.cp_pages.specs.Pages.{pages_for}
 use Rattle.cp_pages.proofs.Chains.{written_more}
 use Rattle.cp_pages.proofs.chain.write.Goals as goal

@@ -1,4 +1,4 @@
-use Rattle.std.proofs.Common.{subst, sym, ◌∙◌}
+use Rattle.std.proofs.Common.{subst, ◌∙◌}
 use Rattle.cp_replay.specs.Follows.{Follows}
 use Rattle.cp_replay.specs.Replay.{after_lines, at_first}
 use Rattle.cp_replay.proofs.Opening.{replay_done}

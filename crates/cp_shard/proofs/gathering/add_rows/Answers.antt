@@ -1,7 +1,7 @@
 use Rattle.std.proofs.Common.{ℕ, List, ◌≡◌, ◌<◌, ◌+◌, ◌++◌, ◌∷◌, [], take, length, get_or, sym, ap, subst, ◌∙◌, append_assoc, arith}
 use Rattle.std.proofs.lemmas.List.{append-nil, take_all, take_more}
 use Rattle.cp_core.specs.declared.item.Item.{Item}
-use Rattle.cp_shard.specs.Gathered.{Gathers, AreNextRows}
+use Rattle.cp_shard.specs.Gathered.{Gathers}
 use Rattle.cp_shard.proofs.gathering.add_rows.Goals as goal
 
 -- the first item more

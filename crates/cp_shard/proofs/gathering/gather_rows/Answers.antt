@@ -1,10 +1,9 @@
-use Rattle.std.proofs.Common.{ℕ, List, ◌≡◌, ◌++◌, ◌∷◌, [], map, None, sym, ap, ◌∙◌, arith}
+use Rattle.std.proofs.Common.{◌++◌, map, sym, ap, ◌∙◌}
 use Rattle.std.specs.Option.{option_map}
 use Rattle.std.specs.Map.{lookup}
 use Rattle.std.specs.BTreeMap.{is_at}
 use Rattle.std.specs.Ordering.{nat_cmp}
 use Rattle.cp_core.specs.Frozen.{gained_view}
-use Rattle.cp_shard.specs.Gathered.{Gathers, gained_at}
 use Rattle.cp_shard.proofs.EpochRows.{listed_blocks}
 use Rattle.cp_shard.proofs.gathering.gather_rows.Goals as goal
 

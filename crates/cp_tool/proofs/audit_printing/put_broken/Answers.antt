@@ -1,6 +1,5 @@
-use Rattle.std.proofs.Common.{List, ℕ, ◌++◌, ap, subst}
+use Rattle.std.proofs.Common.{◌++◌}
 use Rattle.std.specs.Prelude.{codes, decimal}
-use Rattle.cp_tool.specs.Reports.{Puts}
 use Rattle.cp_tool.proofs.Pieces.{puts_first, puts_then}
 use Rattle.cp_tool.proofs.audit_printing.put_broken.Goals as goal
 

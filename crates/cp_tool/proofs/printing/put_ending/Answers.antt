@@ -1,4 +1,4 @@
-use Rattle.std.proofs.Common.{◌≡◌, ◌++◌, List, ℕ, [], codes, ap, subst}
+use Rattle.std.proofs.Common.{◌++◌, List, ℕ, [], codes, ap, subst}
 use Rattle.cp_tool.specs.Reports.{Puts}
 use Rattle.cp_tool.proofs.printing.put_ending.Goals.{in-Usage, in-ShortSeed, in-BadKey, in-Valid, in-Invalid, in-Fault, in-NoMemory}
 use Rattle.cp_tool.proofs.printing.put_ending.Goals as goal

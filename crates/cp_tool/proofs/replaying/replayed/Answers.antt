@@ -1,4 +1,4 @@
-use Rattle.std.proofs.Common.{◌≡◌, length, take, drop, arith, ◌∙◌}
+use Rattle.std.proofs.Common.{arith, ◌∙◌}
 use Rattle.std.proofs.lemmas.List.{take_all}
 use Rattle.cp_tool.specs.ReplayView.{replay_words_view}
 use Rattle.cp_tool.proofs.ReplayLemmas.{done_with}

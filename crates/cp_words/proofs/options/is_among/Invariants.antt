@@ -1,5 +1,5 @@
-use Rattle.std.proofs.Common.{◌≡◌, map, string_bytes, length}
-use Rattle.cp_words.specs.Pairs.{names_in, is_among, are_pairs, value_in}
+use Rattle.std.proofs.Common.{◌≡◌, length}
+use Rattle.cp_words.specs.Pairs.{names_in, is_among}
 use denote.Shadow.{shadow}
 use denote.Text.{Utf8}
 use Rattle.cp_words.proofs.options.is_among.Given as goal

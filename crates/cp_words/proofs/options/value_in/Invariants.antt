@@ -1,5 +1,5 @@
 use Rattle.std.proofs.Common.{◌≡◌, map, string_bytes, length}
-use Rattle.cp_words.specs.Pairs.{names_in, is_among, are_pairs, value_in}
+use Rattle.cp_words.specs.Pairs.{value_in}
 use Rattle.cp_words.proofs.options.value_in.Given as goal
 
 abbrev pub invariant-loop-rest : goal.invariant-loop-rest

@@ -1,4 +1,4 @@
-use Rattle.std.proofs.Common.{rules, arith, suc, ◌≡◌, ◌+◌, ◌-◌, ℕ, [], ◌∷◌, length, map, None, Some, sym, refl, ap, ◌∙◌, subst}
+use Rattle.std.proofs.Common.{arith, suc, ◌≡◌, ◌+◌, ◌-◌, [], ◌∷◌, length, map, None, Some, sym, refl, ap, ◌∙◌, subst}
 use Rattle.std.specs.List.{All, range_with_len}
 use Rattle.std.proofs.lemmas.List.{length-append}
 use Rattle.std.proofs.lemmas.List.Elements.{All-append}

@@ -1,6 +1,4 @@
-use Rattle.std.proofs.Common.{◌≡◌, ◌<◌, ◌^◌, length, ap, sym, ◌∙◌, arith}
-use Rattle.cp_pages.specs.Extent.{Extent}
-use Rattle.cp_pages.specs.Pages.{pages_for, IsLive}
+use Rattle.std.proofs.Common.{◌∙◌}
 use Rattle.cp_pages.proofs.Steps.{live-fits, live-inside, read-live}
 use Rattle.cp_pages.proofs.pool.Pool.read.Goals as goal
 

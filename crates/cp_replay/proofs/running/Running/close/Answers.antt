@@ -1,4 +1,4 @@
-use Rattle.std.proofs.Common.{◌≡◌, Ok, Err, refl, ap, subst, arith}
+use Rattle.std.proofs.Common.{◌≡◌, Err, refl, ap, subst, arith}
 use Rattle.cp_store.specs.Closes.{Closes, IsClosed}
 use Rattle.cp_replay.specs.Replay.{enveloped}
 use Rattle.cp_replay.proofs.Steps.{closed_follows, refused_follows, sealed_leaf}

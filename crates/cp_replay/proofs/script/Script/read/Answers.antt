@@ -1,9 +1,8 @@
-use Rattle.std.proofs.Common.{◌≡◌, suc, ◌+◌, ◌-◌, ◌<◌, ◌≤◌, List, [], ◌∷◌, ◌++◌, length, false, Some, sym, ap, ◌∙◌, subst, arith, rules, length-append}
+use Rattle.std.proofs.Common.{◌≡◌, suc, ◌+◌, ◌-◌, ◌<◌, [], ◌∷◌, ◌++◌, length, false, Some, sym, ap, ◌∙◌, arith, rules, length-append}
 use Rattle.std.specs.Prelude.{◌==◌}
-use Rattle.std.specs.List.{AllByRecursion}
 use Rattle.cp_replay.specs.Words.{with_rest}
-use Rattle.cp_replay.specs.Script.{LineFits, line_at, lines_of, most_lines}
-use Rattle.cp_replay.proofs.Lines.{behind, next_line, fits_more}
+use Rattle.cp_replay.specs.Script.{line_at, most_lines}
+use Rattle.cp_replay.proofs.Lines.{next_line, fits_more}
 use Rattle.cp_replay.proofs.script.Script.read.Goals as goal
 
 pub loop-rest-preserved : goal.loop-rest-preserved

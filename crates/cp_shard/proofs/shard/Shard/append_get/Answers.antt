@@ -1,9 +1,8 @@
-use Rattle.std.proofs.Common.{◌≡◌, ℕ, ◌+◌, ◌-◌, ◌<◌, ◌≤◌, cond, eqb, length, Some, ◌++◌, ◌∷◌, [], refl, sym, ap, ◌∙◌, arith}
-use Rattle.std.specs.Vec.{vec_len, vec_capacity}
+use Rattle.std.proofs.Common.{◌≡◌, ◌+◌, ◌-◌, cond, eqb, length, Some, ◌++◌, ◌∷◌, [], refl, ap, ◌∙◌, arith}
+use Rattle.std.specs.Vec.{vec_capacity}
 use Rattle.std.specs.BTreeMap as tree
 use Rattle.cp_statements.specs.View.{attestation_view}
 use Rattle.cp_core.specs.Life.{RowItem, row_item}
-use Rattle.cp_core.specs.declared.item.Item.TheVariants.{Row}
 use Rattle.cp_shard.specs.Model.{ShardModel}
 use Rattle.cp_shard.specs.Booked.{tip_by, key_by}
 use Rattle.cp_shard.specs.Kept.{IsNext}

@@ -1,18 +1,17 @@
-use Rattle.std.proofs.Common.{◌≡◌, ℕ, ◌+◌, ◌-◌, ◌<◌, ◌≤◌, cond, eqb, length, Some, Option, ◌++◌, ◌∷◌, [], refl, sym, ap, subst, ◌∙◌, arith}
-use Rattle.std.specs.Vec.{vec_len, vec_capacity}
+use Rattle.std.proofs.Common.{◌≡◌, ℕ, ◌-◌, cond, eqb, length, Some, refl, sym, ap, subst, ◌∙◌, arith}
+use Rattle.std.specs.Vec.{vec_capacity}
 use Rattle.std.specs.BTreeMap as tree
 use Rattle.cp_statements.specs.View.{attestation_view}
-use Rattle.cp_core.specs.Life.{RowItem, row_item}
+use Rattle.cp_core.specs.Life.{RowItem}
 use Rattle.cp_core.specs.Calls.{content_at}
 use Rattle.cp_pages.specs.Extent.{Extent}
-use Rattle.cp_pages.specs.Pages.{pages_for}
 use Rattle.cp_shard.specs.Model.{ShardModel}
 use Rattle.cp_shard.specs.Booked.{tip_by, key_by}
 use Rattle.cp_shard.specs.Contents.{IsLiveRun, HasContents}
 use Rattle.cp_shard.specs.Kept.{IsNext}
 use Rattle.cp_shard.specs.Places.{key_cmp}
 use Rattle.cp_shard.specs.Released.{IsReleased}
-use Rattle.cp_shard.specs.Standings.{tip_at, run_at, content_in}
+use Rattle.cp_shard.specs.Standings.{tip_at, run_at}
 use Rattle.cp_shard.specs.declared.key.Key.{Key}
 use Rattle.cp_shard.proofs.NextRow.{next_free, next_few, put_view}
 use Rattle.cp_shard.proofs.Keeping.{keeps_row, put_contents, put_reads, tip_kept}

@@ -1,8 +1,8 @@
-use Rattle.std.proofs.Common.{◌≡◌, None, Some, sym, ap, ◌∙◌}
+use Rattle.std.proofs.Common.{None, Some, ap, ◌∙◌}
 use Rattle.cp_core.specs.Calls.{content_at}
 use Rattle.cp_shard.specs.Model.{ShardModel}
 use Rattle.cp_shard.specs.Standings.{run_at}
-use Rattle.cp_shard.proofs.Lookups.{run_none, run_some, content_by, live_by}
+use Rattle.cp_shard.proofs.Lookups.{run_none, run_some, content_by}
 use Rattle.cp_shard.proofs.shard.Shard.content.Goals as goal
 
 pub returns-in-None-run : goal.returns-in-None-run

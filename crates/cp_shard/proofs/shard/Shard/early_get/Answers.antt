@@ -1,6 +1,4 @@
-use Rattle.std.proofs.Common.{◌≡◌, None, Some, [], List, ℕ, refl, sym, ap, subst, ◌∙◌}
-use Rattle.cp_statements.specs.Attestation.{attestation_text}
-use Rattle.cp_statements.specs.View.{attestation_view}
+use Rattle.std.proofs.Common.{◌≡◌, None, Some, refl, sym, ap, subst, ◌∙◌}
 use Rattle.cp_tips.specs.Tip.{Tip}
 use Rattle.cp_core.specs.Booking.{Booking}
 use Rattle.cp_core.specs.Calls.{epoch_now, content_at}

@@ -1,19 +1,15 @@
-use Rattle.std.proofs.Common.{◌≡◌, ℕ, ◌≤◌, List, [], ◌∷◌, ◌++◌, Option, Some, None, Ok, Err, refl, sym, ap, subst, ◌∙◌, arith}
+use Rattle.std.proofs.Common.{◌≡◌, ◌++◌, Ok, refl, sym, ap, ◌∙◌, arith}
 use Rattle.std.proofs.lemmas.List.{append-nil}
-use Rattle.cp_statements.specs.Attestation.{Attestation, attestation_text}
-use Rattle.cp_statements.specs.Entry.{Entry, entry_text}
-use Rattle.cp_statements.specs.View.{attestation_view, entry_view}
+use Rattle.cp_statements.specs.Attestation.{Attestation}
+use Rattle.cp_statements.specs.View.{attestation_view}
 use Rattle.cp_tips.specs.Tip.{Tip}
 use Rattle.cp_tips.specs.View.{tip_view}
 use Rattle.cp_core.specs.Booking.{Booking}
-use Rattle.cp_core.specs.Life.{RowItem, row_item}
-use Rattle.cp_core.specs.Calls.{Outcome, attested, head_of, new_entry, pages_free}
-use Rattle.cp_core.specs.Calls.Outcome.{Same, New}
+use Rattle.cp_core.specs.Calls.{Outcome, attested, head_of}
 use Rattle.cp_core.specs.declared.request.Request.TheVariants as ask
 use Rattle.cp_core.specs.declared.answer.Answer.TheVariants as spoken
 use Rattle.cp_shard.specs.Model.{ShardModel}
-use Rattle.cp_shard.specs.Kept.{tip_of, IsNext}
-use Rattle.cp_shard.specs.Steps.{answer_in, added, drawn, early, said, step_of}
+use Rattle.cp_shard.specs.Steps.{answer_in, added, drawn, said, step_of}
 use Rattle.cp_shard.proofs.Whole.{refuses_said, refuses_late, settled_step, new_step, next_is, get_entry, get_content, signed_at, tip_head, epoch_some}
 use Rattle.cp_shard.proofs.shard.Shard.get.Goals as goal
 

@@ -1,4 +1,3 @@
-use Rattle.std.proofs.Common.{◌≡◌, sym, ap, ◌∙◌}
 use Rattle.cp_shard.proofs.Keeping.{keeps_none}
 use Rattle.cp_shard.proofs.Spans.{rows_none}
 use Rattle.cp_shard.proofs.shard.Shard.new.Goals as goal

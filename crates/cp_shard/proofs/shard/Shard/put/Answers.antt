@@ -1,25 +1,18 @@
-use Rattle.std.proofs.Common.{◌≡◌, ℕ, ◌+◌, ◌≤◌, ◌<◌, ◌^◌, cond, eqb, length, List, [], ◌∷◌, ◌++◌, Option, Some, None, Ok, Err, refl, sym, ap, subst, ◌∙◌, arith}
+use Rattle.std.proofs.Common.{◌≡◌, ◌+◌, ◌≤◌, cond, eqb, length, [], ◌∷◌, ◌++◌, Some, None, Ok, refl, sym, ap, subst, ◌∙◌, arith}
 use Rattle.std.proofs.lemmas.List.{append-nil}
-use Rattle.sha2.specs.Sha256.{sha256}
-use Rattle.cp_statements.specs.Attestation.{Attestation, attestation_text}
-use Rattle.cp_statements.specs.Entry.{Entry, entry_text}
 use Rattle.cp_statements.specs.PutRequest as put_spec
-use Rattle.cp_statements.specs.View.{attestation_view, entry_view, put_request_view}
+use Rattle.cp_statements.specs.View.{attestation_view}
 use Rattle.cp_tips.specs.Tip.{Tip}
 use Rattle.cp_tips.specs.View.{tip_view}
 use Rattle.cp_core.specs.Booking.{Booking}
-use Rattle.cp_core.specs.Life.{RowItem, row_item, shard_of}
+use Rattle.cp_core.specs.Life.{row_item, shard_of}
 use Rattle.cp_core.specs.Requests.{pages_of}
-use Rattle.cp_core.specs.Calls.{Outcome, attested, content_at, head_of, new_entry, pages_free}
-use Rattle.cp_core.specs.Calls.Outcome.{Same, New}
-use Rattle.cp_core.specs.Machine.{content_in, with_content}
+use Rattle.cp_core.specs.Calls.{Outcome, attested, content_at, head_of, pages_free}
 use Rattle.cp_core.specs.declared.request.Request.{Request}
 use Rattle.cp_core.specs.declared.request.Request.TheVariants as ask
-use Rattle.cp_core.specs.declared.item.Item.{Item}
 use Rattle.cp_core.specs.declared.answer.Answer.TheVariants as spoken
 use Rattle.cp_pages.specs.Pages.{pages_for}
 use Rattle.cp_shard.specs.Model.{ShardModel}
-use Rattle.cp_shard.specs.Kept.{tip_of, IsNext}
 use Rattle.cp_shard.specs.Steps.{answer_in, added, contents_after, drawn, early, OnMemory, put_of, Refuses, said, step_of}
 use Rattle.cp_shard.proofs.PutPages.{pages_is}
 use Rattle.cp_shard.proofs.Whole.{early_any, put_is, put_version, epoch_some, signature_few, refuses_early, refuses_late, memory_early, settled_step, new_step, next_is, put_entry, no_content, signed_at, tip_head, put_memory, put_reads}

@@ -1,4 +1,4 @@
-use Rattle.std.proofs.Common.{◌≡◌, ℕ, sym, ap, subst, ◌∙◌}
+use Rattle.std.proofs.Common.{sym, subst}
 use Rattle.cp_chain.specs.Each.{Each}
 use Rattle.cp_core.specs.Honest.{IsItemOf}
 use Rattle.cp_core.specs.Calls.{content_at, latest_of}
