@@ -34,6 +34,3 @@ pub use material::Material;
 pub use refusal::AuditRefusal;
 pub use verdict::Verdict;
 pub use what::What;
-
-#[cfg(test)]
-mod tests;

@@ -10,8 +10,6 @@ mod epoch_text;
 mod published;
 mod reader;
 mod rule;
-#[cfg(test)]
-mod tests;
 
 pub use board::Board;
 pub use contents::Contents;

@@ -11,6 +11,3 @@ pub use cut::{Cut, Short};
 pub use hashes::{digest, digest2, genesis, head};
 pub use owned::Bytes;
 pub use std::alloc::AllocError as OutOfMemory;
-
-#[cfg(test)]
-mod tests;

@@ -24,8 +24,3 @@ pub use log::{LogPart, LogParts, LogText};
 pub use rule::Rule;
 pub use segment::{Segment, Texts};
 pub use standing::{reaches, stands};
-
-#[cfg(test)]
-mod tests;
-#[cfg(test)]
-mod vectors;

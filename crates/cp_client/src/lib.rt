@@ -17,8 +17,3 @@ pub use asked::{Asked, AskedPut};
 pub use asking::ask_put;
 pub use field::Field;
 pub use refusals::{AskRefusal, ClientRefusal};
-
-#[cfg(test)]
-mod tests;
-#[cfg(test)]
-mod vectors;

@@ -14,6 +14,4 @@ pub mod laws;
 mod log;
 mod pending;
 mod sealed_text;
-#[cfg(test)]
-mod tests;
 mod tips;

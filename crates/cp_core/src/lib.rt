@@ -54,8 +54,3 @@ pub use request::Request;
 pub use seal_item::SealItem;
 pub use seals::Seals;
 pub use shards::Shards;
-
-#[cfg(test)]
-mod admitting;
-#[cfg(test)]
-mod tests;

@@ -26,8 +26,3 @@ pub use writers::{
     write_k1, write_k2, write_k3, write_k4, write_k5, write_k6, write_k7, write_k8, write_k9,
     write_k10,
 };
-
-#[cfg(test)]
-mod tests;
-#[cfg(test)]
-mod vectors;

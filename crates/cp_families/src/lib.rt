@@ -12,8 +12,3 @@ mod verified_put;
 pub use families::{Families, family_of};
 pub use put_fault::PutFault;
 pub use verified_put::VerifiedPut;
-
-#[cfg(test)]
-mod tests;
-#[cfg(test)]
-mod vectors;

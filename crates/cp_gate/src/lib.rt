@@ -12,8 +12,6 @@ mod rule;
 mod seat;
 mod slots;
 mod stands_for;
-#[cfg(test)]
-mod tests;
 mod view;
 
 pub use gate::Gate;

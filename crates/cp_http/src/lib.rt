@@ -10,8 +10,6 @@ mod heads;
 mod reading;
 mod responses;
 mod short_texts;
-#[cfg(test)]
-mod tests;
 
 pub use allows::Allow;
 pub use head_reads::HeadRead;

@@ -11,6 +11,3 @@ mod tables;
 
 pub use judgement::Judgement;
 pub use judging::judge;
-
-#[cfg(test)]
-mod tests;

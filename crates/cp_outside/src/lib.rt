@@ -11,8 +11,6 @@ mod dir_folder;
 mod disk;
 mod disk_bytes;
 mod disk_call;
-#[cfg(test)]
-mod disk_tests;
 mod doors;
 mod endpoints;
 mod entries;
@@ -33,8 +31,6 @@ mod std_sink;
 mod stores;
 mod supplies;
 mod tearing;
-#[cfg(test)]
-mod tests;
 mod vec_sink;
 mod whole_files;
 

@@ -23,6 +23,3 @@ pub use replayed::Replayed;
 pub use replaying::replay;
 pub use script::Script;
 pub use script_refusal::ScriptRefusal;
-
-#[cfg(test)]
-mod tests;

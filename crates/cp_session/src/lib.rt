@@ -18,8 +18,6 @@ mod routes;
 mod sending;
 mod serving;
 mod session_ends;
-#[cfg(test)]
-mod tests;
 
 pub use desks::Desk;
 pub use laws::session_is_fixed;

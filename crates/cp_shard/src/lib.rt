@@ -23,8 +23,3 @@ mod standing;
 
 pub use cp_bytes::OutOfMemory;
 pub use shard::Shard;
-
-#[cfg(test)]
-mod tests;
-#[cfg(test)]
-mod trial;

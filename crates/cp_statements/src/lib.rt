@@ -26,8 +26,3 @@ pub use get_request::GetRequest;
 pub use kind::Kind;
 pub use malformed::Malformed;
 pub use put_request::PutRequest;
-
-#[cfg(test)]
-mod tests;
-#[cfg(test)]
-mod vectors;

@@ -14,8 +14,3 @@ pub use regress::first_regress;
 pub use table::TableText;
 pub use tip::Tip;
 pub use writing::build;
-
-#[cfg(test)]
-mod tests;
-#[cfg(test)]
-mod vectors;

@@ -37,10 +37,3 @@ pub use epoch_part::EpochPart;
 pub use guilt::Guilt;
 pub use replay_words::ReplayWords;
 pub use running::run;
-
-#[cfg(test)]
-mod client_tests;
-#[cfg(test)]
-mod replay_tests;
-#[cfg(test)]
-mod tests;

@@ -16,6 +16,3 @@ pub use file::VaultFile;
 pub use law::ranges_are_disjoint;
 pub use range::LeafRange;
 pub use vault::Vault;
-
-#[cfg(test)]
-mod tests;

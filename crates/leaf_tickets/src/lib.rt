@@ -7,8 +7,6 @@ mod leaf_seat;
 mod leaves;
 mod leaves_over;
 mod rule;
-#[cfg(test)]
-mod tests;
 mod view;
 
 pub use leaf_seat::LeafSeat;

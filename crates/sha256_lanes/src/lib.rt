@@ -8,8 +8,6 @@ mod constants;
 mod functions;
 mod messages;
 mod rounds;
-#[cfg(test)]
-mod tests;
 mod words;
 
 pub use blocks::digests_of_55;

@@ -1,5 +1,0 @@
-use Rattle.leaf_tickets.specs.Models.{IsSeatOf}
-use Rattle.leaf_tickets.proofs.tests.draw_some.Given as goal
-
-abbrev pub invariant-loop : goal.invariant-loop
-invariant-loop g l = IsSeatOf l.leaves l.seat
