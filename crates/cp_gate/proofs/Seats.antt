@@ -4,6 +4,7 @@ use Rattle.std.specs.Prelude.{MatchBool, slice_index}
 use Rattle.atomic_table.specs.Table.{rest}
 use Rattle.atomic_table.specs.Seated.{TableId}
 use Rattle.std.specs.List.{range_with_len}
+use Rattle.std.proofs.lemmas.List.{set-get_or}
 use Rattle.cp_gate.specs.declared.view.View.{View}
 use Rattle.cp_gate.specs.Histories.{seen_of, OthersAdd, SeatAdds, StartsWith, longest}
 use Rattle.cp_gate.specs.Models.{SeatModel, zeros, turn_more, entering, leaving, looking, told_of}
@@ -123,3 +124,6 @@ map_snoc f (y ∷ ys) x = ap (λ l. f y ∷ l) (map_snoc f ys x)
 
 pub looked_at : (T K I : Type 0) (me : Sitting T K I) (k : K) (number : ℕ) (seen : List (List I)) (turns : List ℕ) (entered : Option ℕ) (old : List (ℕ × Option T)) (p : ℕ) (h : List I) → me ≡ (seated k number (set seen p h) turns entered, old) → p < length seen → seen_of (first_seen me.0.identities) p ≡ h
 looked_at T K I me k number seen turns entered old p h is low = ap (λ (m : Sitting T K I). seen_of (first_seen m.0.identities) p) is ∙ get_or-set_same seen p h [] low
+
+pub looked_inside : {K I : Type 0} (seat new : SeatModel K I) (p : ℕ) (h : List I) → new ≡ looking seat p h → h ≡ seen_of seat.seen p → new ≡ seat
+looked_inside {K} {I} seat new p h is same = is ∙ ((λ i. looking seat p (same i)) ∙ (λ i. record seat { seen = set-get_or seat.seen p [] i }))

@@ -205,6 +205,7 @@ module _ {T K I : Type 0} (fits : K → ℕ → T → Type 0) (history : K → �
               subst (λ (z : K × (ℕ × List (List I))). OthersAdd (names z.0) z.1.0 (seen_of z.1.1 p) (r.hist p)) (λ i. ((sym is_key ∙ kk) i, (en i, es i))) (ok.identities.0.adds p low),
               bounds.0,
               bounds.1,
+              λ inside. sym (ok.inside p (ei ∙ inside)).all ∙ ap (λ (z : List (List I)). seen_of z p) es,
             ),
       )
 
@@ -359,10 +360,12 @@ module _ {T K I : Type 0} (fits : K → ℕ → T → Type 0) (history : K → �
 
   -- a seat reads a note
   reads_on : (s : St) (r : Rule s) (id : ℕ) (k : K) (m : ℕ) (seen note : List (List I)) (turns : List ℕ) (entered : Option ℕ) → get_elem? s.views id ≡ some (told k m seen note turns entered)
-      → Rule record { words = s.words; homes = s.homes; views = set s.views id (seated k m (longest seen note) turns entered) } × ((p : ℕ) → p < length seen → OthersAdd (names key) m (seen_of seen p) (seen_of (longest seen note) p) × StartsWith (seen_of (longest seen note) p) (seen_of note p))
+      → Rule record { words = s.words; homes = s.homes; views = set s.views id (seated k m (longest seen note) turns entered) } × ((p : ℕ) → p < length seen → OthersAdd (names key) m (seen_of seen p) (seen_of (longest seen note) p) × StartsWith (seen_of (longest seen note) p) (seen_of note p) × (entered ≡ Some p → seen_of (longest seen note) p ≡ seen_of seen p))
   reads_on s r id k m seen note turns entered at = let v : V = told k m seen note turns entered in let w : V = seated k m (longest seen note) turns entered in let ok = r.each_view id v at in let o = ok.identities.0 in let n = ok.notes.0 in
       let known : (p : ℕ) → p < places → OthersAdd (names key) m (seen_of seen p) (longer (seen_of seen p) (seen_of note p)) × OthersAdd (names key) m (longer (seen_of seen p) (seen_of note p)) (r.hist p) × StartsWith (longer (seen_of seen p) (seen_of note p)) (seen_of note p)
-      = λ p l. longer_adds (names key) m (seen_of seen p) (seen_of note p) (r.hist p) (o.adds p l) (n p l) in (
+      = λ p l. longer_adds (names key) m (seen_of seen p) (seen_of note p) (r.hist p) (o.adds p l) (n p l) in
+      let kept : (q : ℕ) → entered ≡ Some q → seen_of (longest seen note) q ≡ seen_of seen q
+      = λ q e. let i = ok.inside q e in longest_at seen note q (let e = o.sized in let l = i.place in omega arith) ∙ longer_same (seen_of seen q) (seen_of note q) (subst (λ (z : List I). StartsWith z (seen_of note q)) (sym i.all) (n q i.place)) in (
         renewed s r id v w at refl refl refl record {
           keyed = ok.keyed;
           identities = (
@@ -377,12 +380,12 @@ module _ {T K I : Type 0} (fits : K → ℕ → T → Type 0) (history : K → �
             place = i.place;
             word = i.word;
             mine = i.mine;
-            all = longest_at seen note q (let e = o.sized in let l = i.place in omega arith) ∙ (longer_same (seen_of seen q) (seen_of note q) (subst (λ (z : List I). StartsWith z (seen_of note q)) (sym i.all) (n q i.place)) ∙ i.all);
+            all = kept q e ∙ i.all;
           };
           idle = λ e. absurd (cc);
         },
         λ p l. let low : p < places = (let e = o.sized in omega arith) in let is = longest_at seen note p l in
-            (subst (λ (z : List I). OthersAdd (names key) m (seen_of seen p) z) (sym is) (known p low).0, subst (λ (z : List I). StartsWith z (seen_of note p)) (sym is) (known p low).2),
+            (subst (λ (z : List I). OthersAdd (names key) m (seen_of seen p) z) (sym is) (known p low).0, subst (λ (z : List I). StartsWith z (seen_of note p)) (sym is) (known p low).2, kept p),
       )
 
   pub reads : (slots id p : ℕ) (me : M) (k : K) (m : ℕ) (seen note : List (List I)) (turns : List ℕ) (entered : Option ℕ) → me.0 ≡ told k m seen note turns entered → Allows Rule slots id me p (λ n. n) (HasRead names (step slots p 0 0 none) me)
@@ -396,7 +399,7 @@ module _ {T K I : Type 0} (fits : K → ℕ → T → Type 0) (history : K → �
             let ee : identity m seen ∷ [] ≡ identity m' seen' ∷ [] = ap (λ (z : V). z.identities) e in let kk : k ≡ k' = cc (ap (λ (z : V). z.key) e) in let en : note ≡ note' = cc (ap (λ (z : V). z.notes) e) in
             let em : m ≡ m' = ap (λ (z : List (Identity I)). first_number z) ee in let es : seen ≡ seen' = ap (λ (z : List (Identity I)). first_seen z) ee in let et : turns ≡ turns' = ap (λ (z : V). z.turns) e in let ei : entered ≡ entered' = ap (λ (z : V). z.entered) e in (
               (λ i. (seated (kk i) (em i) (longest (es i) (en i)) (et i) (ei i), me.1)),
-              subst (λ (z : K × (ℕ × (List (List I) × List (List I)))). (p : ℕ) → p < length z.1.1.0 → OthersAdd (names z.0) z.1.0 (seen_of z.1.1.0 p) (seen_of (longest z.1.1.0 z.1.1.1) p) × StartsWith (seen_of (longest z.1.1.0 z.1.1.1) p) (seen_of z.1.1.1 p))
-                  (λ i. ((sym is_key ∙ kk) i, (em i, (es i, en i)))) got.1,
+              subst (λ (z : K × (ℕ × (List (List I) × (List (List I) × Option ℕ)))). (p : ℕ) → p < length z.1.1.0 → OthersAdd (names z.0) z.1.0 (seen_of z.1.1.0 p) (seen_of (longest z.1.1.0 z.1.1.1.0) p) × StartsWith (seen_of (longest z.1.1.0 z.1.1.1.0) p) (seen_of z.1.1.1.0 p) × (z.1.1.1.1 ≡ Some p → seen_of (longest z.1.1.0 z.1.1.1.0) p ≡ seen_of z.1.1.0 p))
+                  (λ i. ((sym is_key ∙ kk) i, (em i, (es i, (en i, ei i))))) got.1,
             ),
       )

@@ -155,10 +155,10 @@ abbrev pub Sitting : Type 0 → Type 0 → Type 0 → Type 0
 Sitting T K I = Me (Option T) (View K I)
 
 module _ {T K I : Type 0} where
-  -- the seat has seen the whole history of the place, which the word counts
+  -- the seat has seen the whole history of the place, which the word counts; while it is in the place, it had seen that before
   abbrev pub Looked : (K → I → Option ℕ) → Step (Option T) → Sitting T K I → ℕ → Sitting T K I → Type 0
   Looked names st m n m' = (k : K) (number : ℕ) (seen : List (List I)) (turns : List ℕ) (entered : Option ℕ) → m.0 ≡ seated k number seen turns entered
-      → (h : List I) × (m' ≡ (seated k number (slice_set seen st.word h) turns entered, m.1)) × OthersAdd (names k) number (seen_of seen st.word) h × (2 * length h ≤ n) × (n ≤ 2 * length h + 1)
+      → (h : List I) × (m' ≡ (seated k number (slice_set seen st.word h) turns entered, m.1)) × OthersAdd (names k) number (seen_of seen st.word) h × (2 * length h ≤ n) × (n ≤ 2 * length h + 1) × (entered ≡ Some st.word → h ≡ seen_of seen st.word)
 
   -- a seat that knows nothing
   abbrev pub Arrived : Step (Option T) → Sitting T K I → ℕ → Sitting T K I → Type 0
@@ -175,11 +175,11 @@ module _ {T K I : Type 0} where
   Left history st m n m' = (k : K) (number : ℕ) (seen : List (List I)) (turns : List ℕ) (x : T) → m ≡ (seated k number seen turns (Some st.word), (st.word, Some x) ∷ [])
       → m' ≡ (seated k number (slice_set seen st.word (history k st.word x)) turns None, [])
 
-  -- the seat has taken over what its note has more
+  -- the seat has taken over what its note has more, which is nothing of the place in which it is
   abbrev pub HasRead : (K → I → Option ℕ) → Step (Option T) → Sitting T K I → ℕ → Sitting T K I → Type 0
   HasRead names st m n m' = (k : K) (number : ℕ) (seen note : List (List I)) (turns : List ℕ) (entered : Option ℕ) → m.0 ≡ told k number seen note turns entered
       → (m' ≡ (seated k number (longest seen note) turns entered, m.1))
-      × ((p : ℕ) → p < length seen → OthersAdd (names k) number (seen_of seen p) (seen_of (longest seen note) p) × StartsWith (seen_of (longest seen note) p) (seen_of note p))
+      × ((p : ℕ) → p < length seen → OthersAdd (names k) number (seen_of seen p) (seen_of (longest seen note) p) × StartsWith (seen_of (longest seen note) p) (seen_of note p) × (entered ≡ Some p → seen_of (longest seen note) p ≡ seen_of seen p))
 
 -- the seat has this key and number, nothing is open in its view, and it has seen and entered so many places
 abbrev pub IsSeated : {T K I : Type 0} → K → ℕ → ℕ → Sitting T K I → Type 0

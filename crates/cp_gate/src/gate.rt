@@ -247,7 +247,7 @@ impl<T: StandsFor> Gate<T> {
         self.wake(place);
     }
 
-    /// Tells one seat what another has seen: of each place it has then seen the longer of what both had.
+    /// Tells one seat what another has seen: of each place it has then seen the longer of what both had. Of the place in which it is, it learns nothing new.
     pub fn tell(&self, from: &mut Seat<T>, to: &mut Seat<T>)
         requires from { IsSeatOf self.now from.old }
         requires to { IsSeatOf self.now to.old }
@@ -257,6 +257,7 @@ impl<T: StandsFor> Gate<T> {
             → OthersAdd (T.names self.now.key) to.old.number (seen_of to.old.seen p) (seen_of to.new.seen p) }
         ensures told { (p : ℕ) → p < places self.now
             → StartsWith (seen_of to.new.seen p) (seen_of from.old.seen p) }
+        ensures inside { (p : ℕ) → to.old.entered ≡ Some p → seen_of to.new.seen p ≡ seen_of to.old.seen p }
     {
         let shared = &self.table.shared;
         let note = shared.split_seat::<Note>(&mut from.seat);
@@ -264,7 +265,7 @@ impl<T: StandsFor> Gate<T> {
         shared.load::<ReadNotes>(&mut to.seat, 0);
     }
 
-    /// The number of items in the history of a place, as the call finds it. The seat has then seen that history, which goes on from what it had seen by items of others.
+    /// The number of items in the history of a place, as the call finds it. The seat has then seen that history, which goes on from what it had seen by items of others. At the place in which it is, it learns nothing new.
     pub fn look(&self, seat: &mut Seat<T>, place: u32) -> u64
         requires seat { IsSeatOf self.now seat.old }
         requires place { place < places self.now }
@@ -272,6 +273,7 @@ impl<T: StandsFor> Gate<T> {
         ensures seen { OthersAdd (T.names self.now.key) seat.old.number
             (seen_of seat.old.seen place) (seen_of seat.new.seen place) }
         ensures count { length (seen_of seat.new.seen place) ≡ result }
+        ensures inside { seat.old.entered ≡ Some place → seat.new ≡ seat.old }
     {
         self.table
             .shared

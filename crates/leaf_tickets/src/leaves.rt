@@ -121,6 +121,7 @@ impl Leaves {
     pub fn close(self, seats: Vec<LeafSeat>) -> u64
         requires seats { (length seats.items ≡ self.seats) × All (IsSeatOf self) seats.items }
         ensures once { (x : ℕ) → sum_by (λ s. times x s.drawn) seats.items ≡ once_from self.start x result }
+        ensures count { self.start + sum_by (λ s. length s.drawn) seats.items ≡ result }
         ensures found { All (λ s. s.found ≤ result) seats.items }
     {
         let Leaves { table } = self;

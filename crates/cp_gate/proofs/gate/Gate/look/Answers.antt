@@ -1,7 +1,7 @@
 use Rattle.std.proofs.Common.{length, length-set, arith, sym, refl, ap, ◌∙◌, []}
 use Rattle.cp_gate.specs.Histories.{seen_of}
 use Rattle.cp_gate.proofs.PlaceSteps.{looks_at}
-use Rattle.cp_gate.proofs.Seats.{key_of, key_stays, kept_as, looking_is, read_done, adds_move, looked_at}
+use Rattle.cp_gate.proofs.Seats.{key_of, key_stays, kept_as, looking_is, read_done, adds_move, looked_at, looked_inside}
 use Rattle.cp_gate.proofs.gate.Gate.look.Goals as goal
 
 pub load-requires : goal.load-requires
@@ -30,3 +30,8 @@ pub returns-clause-count : goal.returns-clause-count
 returns-clause-count g c = let l = c.load.ensures.2 c.args.place refl _ _ _ _ _ (ap (λ m. m.0) c.seat.invariant.1.0) in
     let slots = ap (λ s. s.table.slots) c.seat.view_is ∙ ap (λ t. t.slots) c.requires.seat.0 in let low = c.requires.place in let sized = c.seat.invariant.1.2 in
     let e = ap (λ h. length h) (looked_at _ _ _ _ _ _ _ _ _ _ c.args.place l.0 l.1 (omega (arith, slots, low, sized))) in let a = l.3 in let b = l.4 in omega (arith, e, a, b)
+
+pub returns-clause-inside : goal.returns-clause-inside
+returns-clause-inside g c e = let l = c.load.ensures.2 c.args.place refl _ _ _ _ _ (ap (λ m. m.0) c.seat.invariant.1.0) in
+    let slots = ap (λ s. s.table.slots) c.seat.view_is ∙ ap (λ t. t.slots) c.requires.seat.0 in let low = c.requires.place in let sized = c.seat.invariant.1.2 in
+    looked_inside _ _ _ _ (returns-clause-seat g c) (looked_at _ _ _ _ _ _ _ _ _ _ c.args.place l.0 l.1 (omega (arith, slots, low, sized)) ∙ (l.5 (ap (λ s. s.entered) c.seat.view_is ∙ e) ∙ ap (λ s. seen_of s.seen c.args.place) c.seat.view_is))

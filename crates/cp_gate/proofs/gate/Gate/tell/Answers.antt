@@ -60,3 +60,10 @@ returns-clause-told g c p low = let note = c.split_seat-note.ensures in
     let both = read.1 p (omega (arith, slots, sized, low)) in
     let now = ap (λ m. seen_of (first_seen m.0.identities) p) read.0 in
     (adds_move g.T.StandsFor.names _ _ _ _ _ _ _ _ _ _ key (ap (λ s. s.number) c.to.view_is) (ap (λ s. seen_of s.seen p) c.to.view_is) (sym now) (ap (λ s. seen_of s.seen p) c.from.view_is) both.0 both.1).1
+
+pub returns-clause-inside : goal.returns-clause-inside
+returns-clause-inside g c p e = let note = c.split_seat-note.ensures in
+    let read = c.load.ensures.2 _ _ _ _ _ _ (joined _ _ _ _ _ _ _ _ _ _ _ _ (ap (λ m. m.0) c.to.invariant.1.0) (ap (λ m. m.0) note.4) c.join_seat.ensures.2) in
+    let sized = c.to.invariant.1.2 in let here = ap (λ s. s.entered) c.to.view_is ∙ e in let low = c.to.invariant.1.1 p here in
+    let both = read.1 p (omega (arith, sized, low)) in
+    ap (λ m. seen_of (first_seen m.0.identities) p) read.0 ∙ (both.2 here ∙ ap (λ s. seen_of s.seen p) c.to.view_is)

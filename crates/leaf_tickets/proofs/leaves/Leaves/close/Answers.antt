@@ -3,6 +3,7 @@ use mathlib.Core.Option.{some-injective}
 use Rattle.std.proofs.lemmas.Grind.{common_steps}
 use lib.ListN.{get_elem?}
 use Rattle.leaf_tickets.specs.Models.{IsSeatOf, times, once_from}
+use Rattle.leaf_tickets.proofs.Counts.{adds_up}
 use Rattle.leaf_tickets.proofs.Steps.{arrives, gathers, settles, takes_in}
 use Rattle.table_views.proofs.Views.{all_seam}
 use Rattle.leaf_tickets.proofs.leaves.Leaves.close.Goals as goal
@@ -33,3 +34,8 @@ returns-clause-once c x =
     let whole : c.loop-seat.all.me.0.parts ≡ c.self.inside.table.shared.key.seats = i.2 ∙ (ap length all ∙ (c.requires.seats.0 ∙ sym (ap (λ s. s.seats) c.self.view_is))) in
     let n = some-injective _ _ (ap (λ l. get_elem? l 0) (sym f.1.0.counter ∙ f.2) ∙ c.word-count.ensures) in
     ap (λ l. sum_by (λ s. times x s.drawn) l) (sym all) ∙ (sym (i.3 x) ∙ (settles _ _ _ _ f.0 f.1.0 f.1.1 whole x ∙ (λ i. once_from ((c.self.view_is i).start) x (n i))))
+
+pub returns-clause-count : goal.returns-clause-count
+returns-clause-count c = let f = c.close_with-closed.ensures.values.2 in
+    let n = some-injective _ _ (ap (λ l. get_elem? l 0) (sym f.1.0.counter ∙ f.2) ∙ c.word-count.ensures) in
+    adds_up (λ s. s.drawn) c.args.self.start c.word-count.result c.args.seats.items (returns-clause-once c) (let e = ap (λ s. s.start) c.self.view_is in let l = f.1.0.from in omega (arith, e, l, n))
