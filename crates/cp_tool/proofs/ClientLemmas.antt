@@ -357,4 +357,9 @@ module _ (words : AcceptWords) (old : Files) where
           content = (written.1 (tells ∙ told)).content_is;
         },
       )
-      ends (inr unwritten) = inr (unwritten.0, omega (arith, reads.later, unwritten.1))
+      ends (inr unwritten) = inr (unwritten.0, omega (arith, reads.later, unwritten.1), λ apart. stops (unwritten.2 apart))
+        where
+          stops : (new.file words.content ≡ mid.file words.content) ⊎ (IsTrue mid.tells → new.file words.out ≡ Some envelope)
+              → (new.file words.content ≡ old.file words.content) ⊎ (IsTrue old.tells → new.file words.out ≡ Some (envelope_text x.envelope))
+          stops (inl same) = inl (same ∙ kept words.content)
+          stops (inr written) = inr (λ told. written (tells ∙ told) ∙ ap (λ (l : List ℕ). Some l) spelled)

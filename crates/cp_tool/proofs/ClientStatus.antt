@@ -94,7 +94,7 @@ acceptance_well files = step (key_in files.first) _ (key_well files.first)
 
 acceptance_ends : (words : AcceptWords) (r : Result Accepted Outcome) (old new : Files) (ending : Outcome) → RefusesWell r → AcceptanceEnds words r old new ending → Not2 ending
 acceptance_ends words (Ok x) old new ending well (inl written) = same_not2 _ _ written.0 (λ e. omega (arith, e))
-acceptance_ends words (Ok x) old new ending well (inr unwritten) = stops_not2 _ _ ending (inl unwritten)
+acceptance_ends words (Ok x) old new ending well (inr unwritten) = stops_not2 _ _ ending (inl (unwritten.0, unwritten.1))
 acceptance_ends words (Err refusal) old new ending well ends = same_not2 _ _ ends.0 well
 
 pub accept_not2 : (words : AcceptWords) (old new : Files) (ending : Outcome) → AcceptEnds words old new ending → ending.status ≡ 2 → ⊥

@@ -150,7 +150,8 @@ acceptance_well files = step (key_in files.first) _ (key_well files.first)
     (λ key. step (asked_or_refused (asked_of files.second)) _ (asked_well (asked_of files.second)) (λ asked. answer_well (accept_of key asked files.third)))
 
 acceptance_4 : (words : AcceptWords) (r : Result Accepted Outcome) (old new : Files) (ending : Outcome) → RefusesWell r → AcceptanceEnds words r old new ending → ending.status ≡ 4 → Rose old.faults new.faults
-acceptance_4 words (Ok x) old new ending well ends e = written_4 _ ending _ _ (λ four. omega (arith, four)) ends e
+acceptance_4 words (Ok x) old new ending well (inl written) e = absurd (same_not4 _ _ written.0 (λ four. omega (arith, four)) e)
+acceptance_4 words (Ok x) old new ending well (inr unwritten) e = unwritten.1
 acceptance_4 words (Err refusal) old new ending well ends e = absurd (same_not4 _ _ ends.0 well e)
 
 -- ---- the commands that take files alone

@@ -2,6 +2,7 @@
 use Rattle.std.specs.Prelude.{ℕ, ◌≡◌, ◌≢◌, ◌⊎◌, ◌≤◌, ◌<◌, List, length, Option, Some, Result, Ok, Err, IfOk, IfErr, IsErr, IsTrue}
 use Rattle.sha2.specs.Sha256.{sha256}
 use Rattle.cp_outside.specs.Causes.{Rose}
+use Rattle.cp_outside.specs.Disks.{LeavesOnly}
 use Rattle.cp_outside.specs.declared.disk.Disk as disk
 use Rattle.key_vault.specs.Slots.{opening}
 use Rattle.key_vault.specs.Vaults.{file_number}
@@ -16,7 +17,7 @@ use Rattle.cp_tool.specs.ClientRuns as runs
 use Rattle.cp_tool.specs.ClientRuns.{three_of}
 use Rattle.cp_tool.specs.Endings.{Outcome, fault}
 use Rattle.cp_tool.specs.Folders.{Files, Stops, IsFile}
-use Rattle.cp_tool.specs.PutRuns.{number_before, put_parts, IsVaultRefusal}
+use Rattle.cp_tool.specs.PutRuns.{number_before, put_parts, made_from, IsMaking, IsVaultRefusal}
 use Rattle.cp_tool.specs.View.{ending_view}
 use Rattle.cp_tool.specs.declared.drawing.DrawnLeaf.{DrawnLeaf}
 use Rattle.cp_tool.specs.declared.ending.Ending.{Ending}
@@ -64,9 +65,12 @@ leaf_answer (Err ending) = Err (ending_view ending)
 
 module _ {K : Type 0} (g : disk.Ghosts K) where
   -- The vault's number was read, or a blank vault was made. Where the vault is refused, and where it is
-  -- not blank, the disk's bytes stay.
+  -- not blank, the disk's bytes and images stay.
   pub record OpensVault (id : List ℕ) (leaves : ℕ) (old new : K) (answer : Result ℕ Outcome) : Type 0 where
     pub number : IsTrue (g.tells old) → (answer ≡ number_before (opening id leaves (g.seen old))) ⊎ (answer ≡ Err fault)
+    pub made : IsTrue (g.tells old) → IfOk answer (λ n. g.seen new ≡ made_from id (g.seen old))
+    pub seen : IsTrue (g.tells old) → (g.seen new ≡ g.seen old) ⊎ IsMaking id (g.seen old) (g.seen new)
+    pub any_moment : IsTrue (g.tells old) → LeavesOnly g.moment g.images old new (λ image. g.images old (g.moment old) image ⊎ IsMaking id (g.seen old) image)
     pub within : IfOk answer (λ n. n ≤ leaves)
     pub why : IfErr answer IsVaultRefusal
     pub refused : IsTrue (g.tells old) → IsErr (number_before (opening id leaves (g.seen old))) → g.seen new ≡ g.seen old
@@ -86,6 +90,11 @@ pub record WritesBoth (words : AcceptWords) (envelope content : List ℕ) (new :
   pub envelope_is : words.out ≢ words.content → new.file words.out ≡ Some envelope
   pub content_is : new.file words.content ≡ Some content
 
+-- A write failed: the envelope's, and the content's file is as before, or the content's, behind the
+-- envelope's.
+abbrev pub StopsWriting : AcceptWords → List ℕ → Files → Files → Type 0
+StopsWriting words envelope old new = words.out ≢ words.content → (new.file words.content ≡ old.file words.content) ⊎ (IsTrue old.tells → new.file words.out ≡ Some envelope)
+
 abbrev pub WritesEnds : AcceptWords → List ℕ → accepting.Accepted → Files → Files → Outcome → Type 0
 WritesEnds words envelope x old new ending =
-    ((ending ≡ accepted x.attestation) × (IsTrue old.tells → WritesBoth words envelope x.content new)) ⊎ ((ending ≡ fault) × Rose old.faults new.faults)
+    ((ending ≡ accepted x.attestation) × (IsTrue old.tells → WritesBoth words envelope x.content new)) ⊎ ((ending ≡ fault) × Rose old.faults new.faults × StopsWriting words envelope old new)

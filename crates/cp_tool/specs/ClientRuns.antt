@@ -89,10 +89,14 @@ pub record WritesAccepted (words : AcceptWords) (x : Accepted) (new : Files) : T
   pub envelope : words.out ≢ words.content → new.file words.out ≡ Some (envelope_text x.envelope)
   pub content : new.file words.content ≡ Some x.content
 
--- Both were written; or a write failed, after which the two files may hold anything; or an input was
--- refused and nothing was written.
+-- Only the file whose write failed may hold anything: the content's file is as before, or the envelope was
+-- written.
+abbrev pub StopsAccepted : AcceptWords → Accepted → Files → Files → Type 0
+StopsAccepted words x old new = words.out ≢ words.content → (new.file words.content ≡ old.file words.content) ⊎ (IsTrue old.tells → new.file words.out ≡ Some (envelope_text x.envelope))
+
+-- Both were written; or a write failed; or an input was refused and nothing was written.
 abbrev pub AcceptanceEnds : AcceptWords → Result Accepted Outcome → Files → Files → Outcome → Type 0
-AcceptanceEnds words (Ok x) old new ending = ((ending ≡ accepted x.attestation) × (IsTrue old.tells → WritesAccepted words x new)) ⊎ ((ending ≡ fault) × Rose old.faults new.faults)
+AcceptanceEnds words (Ok x) old new ending = ((ending ≡ accepted x.attestation) × (IsTrue old.tells → WritesAccepted words x new)) ⊎ ((ending ≡ fault) × Rose old.faults new.faults × StopsAccepted words x old new)
 AcceptanceEnds words (Err refusal) old new ending = (ending ≡ refusal) × KeepsAll old new
 
 pub record AcceptEnds (words : AcceptWords) (old new : Files) (ending : Outcome) : Type 0 where

@@ -4,9 +4,9 @@ use Rattle.std.specs.Prelude.{ℕ, ◌≡◌, ◌⊎◌, ◌+◌, ◌<◌, ◌�
 use Rattle.sha2.specs.Sha256.{sha256}
 use Rattle.cp_bytes.specs.Fields.{◌>>=◌}
 use Rattle.cp_outside.specs.Causes.{Rose}
-use Rattle.cp_outside.specs.Disks.{Only}
+use Rattle.cp_outside.specs.Disks.{Only, LeavesOnly}
 use Rattle.cp_outside.specs.declared.disk.Disk as disk
-use Rattle.key_vault.specs.Slots.{opening, reserved_in, id_in}
+use Rattle.key_vault.specs.Slots.{opening, reserved_in, id_in, fresh, advanced, HasEither, HasNone}
 use Rattle.key_vault.specs.declared.faults.LoadFault.{LoadFault}
 use Rattle.key_vault.specs.declared.faults.LoadFault.TheVariants.{DiskFault, Blank, OtherKey, Damaged}
 use Rattle.lms_tree.specs.Secret.{Secret, public_of, leaves_of}
@@ -42,6 +42,20 @@ abbrev pub IsVaultRefusal : Outcome → Type 0
 IsVaultRefusal ending =
     (ending ≡ fault) ⊎ (ending ≡ other_key) ⊎ ((reserved : ℕ) × (leaves : ℕ) × (ending ≡ over reserved leaves)) ⊎ ((reserved : ℕ) × (leaves : ℕ) × (ending ≡ damaged reserved leaves))
 
+-- the vault's file that a leaf is drawn from: a blank one is made fresh first
+abbrev pub made_from : List ℕ → List ℕ → List ℕ
+made_from id file = if nat_lt (length file) 129 then fresh id else file
+
+-- what stands on the disk while a vault is made, which is done of a blank file alone
+abbrev pub IsMaking : List ℕ → List ℕ → List ℕ → Type 0
+IsMaking id file image = (length file < 129) × HasNone id image
+
+-- What stands on the disk while a leaf is drawn: a vault that is made, or the key's vault with as many
+-- leaves reserved as before or one more. Where the vault is refused there is no such image.
+abbrev pub IsDrawing : List ℕ → List ℕ → Result ℕ Outcome → List ℕ → Type 0
+IsDrawing id file (Ok leaf) image = IsMaking id file image ⊎ HasEither id leaf (leaf + 1) image
+IsDrawing id file (Err refusal) image = ⊥
+
 module _ {K : Type 0} (g : disk.Ghosts K) where
   -- the disk holds this key's vault with this number of reserved leaves, and a crash leaves it
   pub record HoldsNumber (d : K) (id : List ℕ) (number : ℕ) : Type 0 where
@@ -49,11 +63,15 @@ module _ {K : Type 0} (g : disk.Ghosts K) where
     pub key : id_in (g.seen d) ≡ id
     pub durable : Only (g.seen d) (g.images d (g.moment d))
 
-  -- One leaf was reserved: the one that the vault's number named, which is then one more. Where the
+  -- One leaf was reserved: the one that the vault's number named, which is then one more. At any moment
+  -- a crash leaves what it could leave before, or the vault with the old number or one more. Where the
   -- vault is refused the disk's bytes stay. A fault comes only where the disk's count rose.
   pub record DrawsLeaf (id : List ℕ) (leaves : ℕ) (old new : K) (drawn : Result ℕ Outcome) : Type 0 where
     pub next : IsTrue (g.tells old) → (drawn ≡ next_leaf id leaves (g.seen old)) ⊎ (drawn ≡ Err fault)
     pub reserved : IsTrue (g.tells old) → IfOk drawn (λ leaf. HoldsNumber new id (leaf + 1))
+    pub file : IsTrue (g.tells old) → IfOk drawn (λ leaf. g.seen new ≡ advanced (made_from id (g.seen old)) id (leaf + 1))
+    pub seen : IsTrue (g.tells old) → (g.seen new ≡ g.seen old) ⊎ IsDrawing id (g.seen old) (next_leaf id leaves (g.seen old)) (g.seen new)
+    pub any_moment : IsTrue (g.tells old) → LeavesOnly g.moment g.images old new (λ image. g.images old (g.moment old) image ⊎ IsDrawing id (g.seen old) (next_leaf id leaves (g.seen old)) image)
     pub below : IfOk drawn (λ leaf. leaf < leaves)
     pub why : IfErr drawn IsVaultRefusal
     pub refused : IsTrue (g.tells old) → IsErr (next_leaf id leaves (g.seen old)) → g.seen new ≡ g.seen old

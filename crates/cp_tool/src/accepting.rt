@@ -62,11 +62,11 @@ fn put_accepted<'a, F: Folder>(
         (record { tells = F.tells files.new; file = F.file files.new; faults = F.faults files.new }) (ending_view result) }
     ensures others { (name : List ℕ) → name ≢ words.now.out.now → name ≢ words.now.content.now → F.file files.new name ≡ F.file files.old name }
 {
-    if files.write(words.out, envelope).is_err() {
-        return Ending::Fault;
-    }
-    match files.write(words.content, accepted.content) {
-        Ok(()) => Ending::Client(ClientEnding::Accepted(accepted.attestation)),
+    match files.write(words.out, envelope) {
+        Ok(()) => match files.write(words.content, accepted.content) {
+            Ok(()) => Ending::Client(ClientEnding::Accepted(accepted.attestation)),
+            Err(_) => Ending::Fault,
+        },
         Err(_) => Ending::Fault,
     }
 }

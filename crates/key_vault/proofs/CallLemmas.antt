@@ -9,7 +9,7 @@ use Rattle.key_vault.specs.declared.faults.LoadFault.TheVariants as load
 use Rattle.key_vault.specs.Slots.{gate_of, id_in, reserved_in, opening, slot_bytes, fresh_slots, fresh, advanced, HasEither, HasNone}
 use Rattle.key_vault.specs.Calls.{IsOpening, UnlessFailed, OnBlank, IsSettled, Loads, Formats}
 use Rattle.key_vault.proofs.Moments.{started, goes_on, leaves_less}
-use Rattle.key_vault.proofs.SlotLemmas.{id_size, front_id, front_gate, opening_front, opening_no_fault, opening_short, opening_number, long_of_number, first_torn, second_torn, advanced_is, advanced_number, advanced_gate, advanced_id, slots_torn, mark_torn, fresh_there, fresh_number, fresh_gate, fresh_id}
+use Rattle.key_vault.proofs.SlotLemmas.{id_size, front_id, front_gate, opening_front, opening_no_fault, opening_short, opening_number, long_of_number, first_torn, first_torn_id, second_torn, second_torn_id, advanced_is, advanced_number, advanced_gate, advanced_id, slots_torn, mark_torn, fresh_there, fresh_number, fresh_gate, fresh_id}
 
 -- an answer that opening gives
 is_opening : (id : List ℕ) (leaves : ℕ) (file : List ℕ) (answer : Result ℕ LoadFault) → answer ≡ opening id leaves file → IsOpening id leaves file answer
@@ -103,7 +103,7 @@ module _ {K : Type 0} (g : disk.Ghosts K) where
   formats id slots d0 d4 answer sized is short file durable any later tells cause = record {
     file = λ told. on_both answer (file told) (λ there. there ∙ ap (λ (l : List ℕ). overwritten (overwritten (g.seen d0) 0 l) 128 (0 ∷ [])) is ∙ fresh_there (g.seen d0) id sized (short told));
     durable = durable;
-    any_moment = λ told only. leaves_less g.moment g.images d0 d4 _ HasNone
+    any_moment = λ told only. leaves_less g.moment g.images d0 d4 _ (HasNone id)
         (λ image torn. ⊎_elim
         (λ first. slots_torn (g.seen d0) id sized (short told) image (subst (λ (l : List ℕ). IsTorn 0 l (g.seen d0) image) is first))
         (λ second. mark_torn (g.seen d0) id sized (short told) image (subst (λ (l : List ℕ). IsTorn 128 (0 ∷ []) (overwritten (g.seen d0) 0 l) image) is second)) torn)
@@ -138,23 +138,30 @@ module _ {K : Type 0} (g : disk.Ghosts K) where
     other_is : IsTrue (g.tells d0) → other ≡ 1 - gate_of (g.seen d0)
     other_is told = turned ∙ ap (λ (k : ℕ). 1 - k) (sym (settled told).current)
 
-    first : (told : IsTrue (g.tells d0)) (image : List ℕ) → IsTorn (64 * other) bytes (g.seen d0) image → HasEither number (number + n) image
-    first told image torn =
-        inl (first_torn (g.seen d0) id (sized told) (long told) next fits image
-        (subst (λ (k : ℕ). IsTorn (64 * k) (slot_bytes id next) (g.seen d0) image) (other_is told) (subst (λ (l : List ℕ). IsTorn (64 * other) l (g.seen d0) image) is torn))
-        ∙ (settled told).reserved)
+    first : (told : IsTrue (g.tells d0)) (image : List ℕ) → IsTorn (64 * other) bytes (g.seen d0) image → HasEither id number (number + n) image
+    first told image torn = (
+      first_torn_id (g.seen d0) id (sized told) (long told) next fits image at_other ∙ (settled told).key,
+      inl (first_torn (g.seen d0) id (sized told) (long told) next fits image at_other ∙ (settled told).reserved),
+    )
+      where
+        at_other : IsTorn (64 * (1 - gate_of (g.seen d0))) (slot_bytes id next) (g.seen d0) image
+        at_other = subst (λ (k : ℕ). IsTorn (64 * k) (slot_bytes id next) (g.seen d0) image) (other_is told) (subst (λ (l : List ℕ). IsTorn (64 * other) l (g.seen d0) image) is torn)
 
-    second : (told : IsTrue (g.tells d0)) (image : List ℕ) → IsTorn 128 (other ∷ []) (overwritten (g.seen d0) (64 * other) bytes) image → HasEither number (number + n) image
-    second told image torn =
-        ⊎_elim (λ old. inl (old ∙ (settled told).reserved)) (λ new. inr (new ∙ ap (λ (k : ℕ). Some k) more))
-        (second_torn (g.seen d0) id (sized told) (long told) next fits image
-        (subst (λ (k : ℕ). IsTorn 128 (k ∷ []) (overwritten (g.seen d0) (64 * k) (slot_bytes id next)) image) (other_is told)
-        (subst (λ (l : List ℕ). IsTorn 128 (other ∷ []) (overwritten (g.seen d0) (64 * other) l) image) is torn)))
+    second : (told : IsTrue (g.tells d0)) (image : List ℕ) → IsTorn 128 (other ∷ []) (overwritten (g.seen d0) (64 * other) bytes) image → HasEither id number (number + n) image
+    second told image torn = (
+      second_torn_id (g.seen d0) id (sized told) (long told) next fits image at_gate (settled told).key,
+      ⊎_elim (λ old. inl (old ∙ (settled told).reserved)) (λ new. inr (new ∙ ap (λ (k : ℕ). Some k) more))
+          (second_torn (g.seen d0) id (sized told) (long told) next fits image at_gate),
+    )
+      where
+        at_gate : IsTorn 128 ((1 - gate_of (g.seen d0)) ∷ []) (overwritten (g.seen d0) (64 * (1 - gate_of (g.seen d0))) (slot_bytes id next)) image
+        at_gate = subst (λ (k : ℕ). IsTorn 128 (k ∷ []) (overwritten (g.seen d0) (64 * k) (slot_bytes id next)) image) (other_is told)
+            (subst (λ (l : List ℕ). IsTorn 128 (other ∷ []) (overwritten (g.seen d0) (64 * other) l) image) is torn)
 
     pub reserve_moments : (IsTrue (g.tells d0) → Only (g.seen d0) (g.images d0 (g.moment d0)) → LeavesOnly g.moment g.images d0 d4
         (λ image. IsTorn (64 * other) bytes (g.seen d0) image ⊎ IsTorn 128 (other ∷ []) (overwritten (g.seen d0) (64 * other) bytes) image))
-        → IsTrue (g.tells d0) → LeavesOnly g.moment g.images d0 d4 (HasEither number (number + n))
-    reserve_moments any told = leaves_less g.moment g.images d0 d4 _ (HasEither number (number + n))
+        → IsTrue (g.tells d0) → LeavesOnly g.moment g.images d0 d4 (HasEither id number (number + n))
+    reserve_moments any told = leaves_less g.moment g.images d0 d4 _ (HasEither id number (number + n))
         (λ image torn. ⊎_elim (first told image) (second told image) torn) (any told (settled told).durable)
 
     pub reserve_file : IsTrue (g.tells d0) → g.seen d4 ≡ overwritten (overwritten (g.seen d0) (64 * other) bytes) 128 (other ∷ []) → g.seen d4 ≡ advanced (g.seen d0) id (number + n)

@@ -5,7 +5,7 @@ use Rattle.cp_outside.specs.declared.disk.Disk as disk
 use Rattle.key_vault.specs.Ranges.{Range, IsIn}
 use Rattle.key_vault.specs.Slots.{reserved_in, HasEither}
 use Rattle.key_vault.specs.Calls.{Loads, Reserves}
-use Rattle.key_vault.specs.Runs.{Call, Load, Format, Reserve, Event, Made, CutShort, Crashed, handed_out, HaveNoLeafTwice, HaveLeavesBelow, Does, Restarts, IsRun}
+use Rattle.key_vault.specs.Runs.{Call, Load, Format, Reserve, Event, Made, CutShort, Crashed, handed_out, HaveNoLeafTwice, HaveLeavesBelow, HasThemReserved, Does, Restarts, IsRun, last_disk}
 use Rattle.key_vault.proofs.SlotLemmas.{long_of_number, opening_number}
 
 all_more : {X : Type 0} (P Q : X → Type 0) → ((x : X) → P x → Q x) → (xs : List X) → AllByRecursion P xs → AllByRecursion Q xs
@@ -65,9 +65,8 @@ module _ {K : Type 0} (g : disk.Ghosts K) (id : List ℕ) (leaves : ℕ)
       long : (n : ℕ) × (reserved_in (g.seen d) ≡ Some n) × (low ≤ n) → ⊥
       long has = omega (arith, long_of_number (g.seen d) has.0 has.1, short)
 
-  either_above : (low number n : ℕ) (image : List ℕ) → low ≤ number → HasEither number (number + n) image → AtLeast low image
-  either_above low number n image le (inl old) = inr (number, old, le)
-  either_above low number n image le (inr new) = inr (number + n, new, omega (arith, le))
+  either_above : (low number n : ℕ) (image : List ℕ) → low ≤ number → HasEither id number (number + n) image → AtLeast low image
+  either_above low number n image le has = ⊎_elim (λ old. inr (number, old, le)) (λ new. inr (number + n, new, omega (arith, le))) has.1
 
   -- at any moment of a call
   in_call : (low : ℕ) (held : Option ℕ) (call : Call) (old new : K) → Given low held old → Does g id leaves held call old new
@@ -129,8 +128,23 @@ module _ {K : Type 0} (g : disk.Ghosts K) (id : List ℕ) (leaves : ℕ)
     above = omega arith;
   }
 
-  pub run_ahead : (events : List Event) (held : Option ℕ) (d : K) (low : ℕ) → Given low held d → IsRun g id leaves held d events → Ahead leaves low (handed_out events)
-  run_ahead [] held d low given run = none_ahead leaves low
+  -- what is known at the end
+  pub record After (low : ℕ) (last : K) (ranges : List Range) : Type 0 where
+    pub ahead : Ahead leaves low ranges
+    pub images : (image : List ℕ) → g.images last (g.moment last) image → AtLeast low image
+    pub kept : HasThemReserved g last ranges
+
+  at_least : (low high : ℕ) (image : List ℕ) → low ≤ high → AtLeast high image → AtLeast low image
+  at_least low high image le (inl zero) = inl (omega (arith, le, zero))
+  at_least low high image le (inr has) = inr (has.0, has.1, omega (arith, le, has.2))
+
+  reaches : (high : ℕ) (image : List ℕ) → 0 < high → AtLeast high image → (number : ℕ) × (reserved_in image ≡ Some number) × (high ≤ number)
+  reaches high image some (inl zero) = absurd (omega (arith, some, zero))
+  reaches high image some (inr has) = has
+
+  pub run_ahead : (events : List Event) (held : Option ℕ) (d : K) (low : ℕ) → Given low held d → (run : IsRun g id leaves held d events)
+      → After low (last_disk g id leaves held d events run) (handed_out events)
+  run_ahead [] held d low given run = record { ahead = none_ahead leaves low; images = given.images; kept = tt }
   run_ahead (Crashed ∷ events) held d low given run =
       run_ahead events None run.0 low (after_crash low (g.moment d) d run.0 given.told given.images run.1) run.2
   run_ahead (CutShort call ∷ events) held d low given run =
@@ -150,11 +164,15 @@ module _ {K : Type 0} (g : disk.Ghosts K) (id : List ℕ) (leaves : ℕ)
       run_ahead events None run.0 low (after_call low (Some number) None (Reserve n (Err fault)) d run.0 given run.1 tt) run.2
   run_ahead (Made (Reserve n (Ok range)) ∷ events) (Some number) d low given run =
       let does = run.1.1 in
-      one_ahead leaves low range (handed_out events) (omega (arith, given.above, does.range.0)) (omega (arith, does.range.0, does.range.1)) (omega (arith, does.range.1, does.over))
-      (run_ahead events (Some range.to) run.0 range.to (reserved low number n d run.0 range given does) run.2)
+      let later = run_ahead events (Some range.to) run.0 range.to (reserved low number n d run.0 range given does) run.2 in
+      record {
+        ahead = one_ahead leaves low range (handed_out events) (omega (arith, given.above, does.range.0)) (omega (arith, does.range.0, does.range.1)) (omega (arith, does.range.1, does.over)) later.ahead;
+        images = λ image left. at_least low range.to image (omega (arith, given.above, does.range.1)) (later.images image left);
+        kept = (λ image left. reaches range.to image (omega (arith, run.1.0, does.range.1)) (later.images image left), later.kept);
+      }
 
-  pub run_is_disjoint : (start : K) (events : List Event) → IsTrue (g.tells start) → IsRun g id leaves None start events
-      → HaveNoLeafTwice (handed_out events) × HaveLeavesBelow leaves (handed_out events)
+  pub run_is_disjoint : (start : K) (events : List Event) → IsTrue (g.tells start) → (run : IsRun g id leaves None start events)
+      → HaveNoLeafTwice (handed_out events) × HaveLeavesBelow leaves (handed_out events) × HasThemReserved g (last_disk g id leaves None start events run) (handed_out events)
   run_is_disjoint start events told run =
-      let ahead = run_ahead events None start 0 (record { told = told; images = λ image now. inl refl; above = tt }) run in
-      (ahead.twice, ahead.below)
+      let after = run_ahead events None start 0 (record { told = told; images = λ image now. inl refl; above = tt }) run in
+      (after.ahead.twice, after.ahead.below, after.kept)

@@ -78,6 +78,10 @@ number_same : (k : ℕ) (old new : List ℕ) → gate_of new ≡ k → slot_of k
 number_same k old new gate slot =
     ap (λ (j : ℕ). number_at j new) gate ∙ ap (λ (l : List ℕ). from_be_bytes w64 (drop 32 l)) slot
 
+-- and the id in it
+id_same : (k : ℕ) (old new : List ℕ) → gate_of new ≡ k → slot_of k new ≡ slot_of k old → id_in new ≡ take 32 (slot_of k old)
+id_same k old new gate slot = ap (λ (j : ℕ). take 32 (slot_of j new)) gate ∙ ap (λ (l : List ℕ). take 32 l) slot
+
 -- a slot's parts
 module _ (id : List ℕ) (sized : length id ≡ 32) (n : ℕ) where
   pub slot_size : length (slot_bytes id n) ≡ 40
@@ -116,6 +120,11 @@ module _ (s id : List ℕ) (sized : length id ≡ 32) (long : 129 ≤ length s) 
       ∙ ap (λ (n : ℕ). Some n) (number_same k s image (gate_kept (64 * (1 - k)) bytes s image torn long (omega (arith, lt, forty))) (slot_kept k (64 * (1 - k)) bytes s image torn lt (omega (arith, long)) outside))
       ∙ sym (number_of_long s long)
 
+  -- and the old id
+  pub first_torn_id : (image : List ℕ) → IsTorn (64 * (1 - k)) bytes s image → id_in image ≡ id_in s
+  first_torn_id image torn =
+      id_same k s image (gate_kept (64 * (1 - k)) bytes s image torn long (omega (arith, lt, forty))) (slot_kept k (64 * (1 - k)) bytes s image torn lt (omega (arith, long)) outside)
+
   abbrev mid : List ℕ
   mid = overwritten s (64 * (1 - k)) bytes
 
@@ -147,6 +156,13 @@ module _ (s id : List ℕ) (sized : length id ≡ 32) (long : 129 ≤ length s) 
   second_torn image torn = elim (bits (gate_of image) k (gate_bit image) lt) [
     | inl gate ↦ inl (number_of_long image (omega (arith, mid_long, torn.no_shorter)) ∙ ap (λ (n : ℕ). Some n) (number_same k s image gate (kept_slot image torn)) ∙ sym (number_of_long s long))
     | inr gate ↦ inr (has_next image torn gate)
+  ]
+
+  -- and both have the id
+  pub second_torn_id : (image : List ℕ) → IsTorn 128 ((1 - k) ∷ []) mid image → id_in s ≡ id → id_in image ≡ id
+  second_torn_id image torn key = elim (bits (gate_of image) k (gate_bit image) lt) [
+    | inl gate ↦ id_same k s image gate (kept_slot image torn) ∙ key
+    | inr gate ↦ ap (λ (j : ℕ). take 32 (slot_of j image)) gate ∙ ap (λ (l : List ℕ). take 32 l) (new_slot image torn) ∙ slot_id id sized next
   ]
 
   abbrev end : List ℕ
@@ -215,7 +231,7 @@ module _ (s id : List ℕ) (sized : length id ≡ 32) (short : length s < 129) w
       ∙ append-nil (fresh_slots id)
 
   -- while the slots are written the file is blank
-  pub slots_torn : (image : List ℕ) → IsTorn 0 (fresh_slots id) s image → HasNone image
+  pub slots_torn : (image : List ℕ) → IsTorn 0 (fresh_slots id) s image → HasNone id image
   slots_torn image torn = inl (number_of_blank image (omega (arith, torn.no_longer, ap length slots_there, fresh_size)))
 
   fresh_image : (image : List ℕ) → IsTorn 128 (0 ∷ []) (fresh_slots id) image → 129 ≤ length image → reserved_in image ≡ Some 0
@@ -226,11 +242,21 @@ module _ (s id : List ℕ) (sized : length id ≡ 32) (short : length s < 129) w
       ∙ fresh_slot (gate_of image) (gate_bit image))
       ∙ slot_number id sized 0 (omega arith))
 
-  -- while the gate is written it is blank or has no leaf reserved
-  pub mark_torn : (image : List ℕ) → IsTorn 128 (0 ∷ []) (overwritten s 0 (fresh_slots id)) image → HasNone image
+  fresh_image_id : (image : List ℕ) → IsTorn 128 (0 ∷ []) (fresh_slots id) image → id_in image ≡ id
+  fresh_image_id image torn =
+      ap (λ (l : List ℕ). take 32 l)
+      (slot_kept (gate_of image) 128 (0 ∷ []) (fresh_slots id) image torn (gate_bit image) (omega (arith, fresh_size)) (inl (omega (arith, gate_bit image)))
+      ∙ fresh_slot (gate_of image) (gate_bit image))
+      ∙ slot_id id sized 0
+
+  fresh_mark : (image : List ℕ) → IsTorn 128 (0 ∷ []) (overwritten s 0 (fresh_slots id)) image → IsTorn 128 (0 ∷ []) (fresh_slots id) image
+  fresh_mark image torn = subst (λ (l : List ℕ). IsTorn 128 (0 ∷ []) l image) slots_there torn
+
+  -- while the gate is written it is blank, or the key's with no leaf reserved
+  pub mark_torn : (image : List ℕ) → IsTorn 128 (0 ∷ []) (overwritten s 0 (fresh_slots id)) image → HasNone id image
   mark_torn image torn = elim (lt_or_le (length image) 129) [
     | inl less ↦ inl (number_of_blank image less)
-    | inr long ↦ inr (fresh_image image (subst (λ (l : List ℕ). IsTorn 128 (0 ∷ []) l image) slots_there torn) long)
+    | inr long ↦ inr (fresh_image_id image (fresh_mark image torn), fresh_image image (fresh_mark image torn) long)
   ]
 
   pub fresh_there : overwritten (overwritten s 0 (fresh_slots id)) 128 (0 ∷ []) ≡ fresh id

@@ -55,16 +55,16 @@ module _ {K : Type 0} (g : disk.Ghosts K) where
     pub never_falls : g.faults old ≤ g.faults new
     pub failed : IsErrOf answer load.DiskFault → Rose (g.faults old) (g.faults new)
 
-  -- A formatting makes a fresh file. Where a crash could leave only the blank file, it leaves a file with no leaf reserved at any moment.
+  -- A formatting makes a fresh file. Where a crash could leave only the blank file, it leaves at any moment a blank file or this key's with no leaf reserved.
   pub record Formats {T E : Type 0} (id : List ℕ) (old new : K) (answer : Result T E) : Type 0 where
     pub file : IsTrue (g.tells old) → OnOk answer (g.seen new ≡ fresh id)
     pub durable : IsTrue (g.tells old) → OnOk answer (Only (g.seen new) (g.images new (g.moment new)))
-    pub any_moment : IsTrue (g.tells old) → Only (g.seen old) (g.images old (g.moment old)) → LeavesOnly g.moment g.images old new HasNone
+    pub any_moment : IsTrue (g.tells old) → Only (g.seen old) (g.images old (g.moment old)) → LeavesOnly g.moment g.images old new (HasNone id)
     pub later : IsTrue (g.tells old) → g.moment old ≤ g.moment new
     pub tells : g.tells new ≡ g.tells old
     pub cause : HasCause (g.faults old) (g.faults new) answer
 
-  -- A reservation of n leaves hands out the next n and then has the new number for good. At any moment a crash leaves the old number or the new one.
+  -- A reservation of n leaves hands out the next n and then has the new number for good. At any moment a crash leaves this key's file with the old number or the new one.
   pub record Reserves (id : List ℕ) (leaves number n : ℕ) (old new : K) (answer : Result Range VaultFault) : Type 0 where
     pub range : IfOk answer (λ r. (r.from ≡ number) × (r.to ≡ number + n))
     pub over : RefusesOver leaves number n answer
@@ -72,7 +72,7 @@ module _ {K : Type 0} (g : disk.Ghosts K) where
     pub file : IsTrue (g.tells old) → OnOk answer (g.seen new ≡ advanced (g.seen old) id (number + n))
     pub number_is : IsTrue (g.tells old) → OnOk answer (reserved_in (g.seen new) ≡ Some (number + n))
     pub durable : IsTrue (g.tells old) → OnOk answer (Only (g.seen new) (g.images new (g.moment new)))
-    pub any_moment : IsTrue (g.tells old) → LeavesOnly g.moment g.images old new (HasEither number (number + n))
+    pub any_moment : IsTrue (g.tells old) → LeavesOnly g.moment g.images old new (HasEither id number (number + n))
     pub tells : g.tells new ≡ g.tells old
     pub never_falls : g.faults old ≤ g.faults new
     pub failed : IsErrOf answer vault.DiskFault → Rose (g.faults old) (g.faults new)

@@ -1,5 +1,5 @@
 -- What happens to one key's disk, and the leaves that are handed out meanwhile (this project's own).
-use Rattle.std.specs.Prelude.{◌≡◌, ◌<◌, ℕ, List, [], ◌∷◌, length, Option, None, Some, Result, Ok, IfOk, IsTrue}
+use Rattle.std.specs.Prelude.{◌≡◌, ◌<◌, ◌≤◌, ℕ, List, [], ◌∷◌, length, Option, None, Some, Result, Ok, IfOk, IsTrue}
 use Rattle.std.specs.List.{AllByRecursion}
 use Rattle.cp_outside.specs.Disks.{Among}
 use Rattle.cp_outside.specs.declared.disk.Disk as disk
@@ -7,6 +7,7 @@ use Rattle.key_vault.specs.declared.faults.DiskFault.{DiskFault}
 use Rattle.key_vault.specs.declared.faults.LoadFault.{LoadFault}
 use Rattle.key_vault.specs.declared.faults.VaultFault.{VaultFault}
 use Rattle.key_vault.specs.Ranges.{Range, IsIn}
+use Rattle.key_vault.specs.Slots.{reserved_in}
 use Rattle.key_vault.specs.Calls.{Loads, Formats, Reserves}
 
 -- a call of the vault, and its answer: a load and a formatting give the reserved number
@@ -63,8 +64,21 @@ module _ {K : Type 0} (g : disk.Ghosts K) (id : List ℕ) (leaves : ℕ) where
   IsRun held d (CutShort call ∷ events) = (mid : K) × (new : K) × Does held call d mid × Restarts g (g.moment d) mid new × IsRun None new events
   IsRun held d (Crashed ∷ events) = (new : K) × Restarts g (g.moment d) d new × IsRun None new events
 
--- Whatever happens, no leaf is handed out twice, and none beyond the key's.
+  -- the disk after the events
+  abbrev pub last_disk : (held : Option ℕ) (d : K) (events : List Event) → IsRun held d events → K
+  last_disk held d [] run = d
+  last_disk held d (Made call ∷ events) run = last_disk (open_after call) run.0 events run.2
+  last_disk held d (CutShort call ∷ events) run = last_disk None run.1 events run.4
+  last_disk held d (Crashed ∷ events) run = last_disk None run.0 events run.2
+
+-- Whatever a crash leaves of this disk, at least as many leaves are reserved as each of the ranges ends at.
+abbrev pub HasThemReserved : {K : Type 0} → disk.Ghosts K → K → List Range → Type 0
+HasThemReserved g d ranges =
+    AllByRecursion (λ range. (image : List ℕ) → g.images d (g.moment d) image → (number : ℕ) × (reserved_in image ≡ Some number) × (range.to ≤ number)) ranges
+
+-- Whatever happens, no leaf is handed out twice, and none beyond the key's, and the disk has all of them
+-- reserved for good.
 abbrev pub RangesAreDisjoint : {K : Type 0} → disk.Ghosts K → Type 0
 RangesAreDisjoint {K} g =
-    (id : List ℕ) (leaves : ℕ) (start : K) (events : List Event) → IsTrue (g.tells start) → IsRun g id leaves None start events
-    → HaveNoLeafTwice (handed_out events) × HaveLeavesBelow leaves (handed_out events)
+    (id : List ℕ) (leaves : ℕ) (start : K) (events : List Event) → IsTrue (g.tells start) → (run : IsRun g id leaves None start events)
+    → HaveNoLeafTwice (handed_out events) × HaveLeavesBelow leaves (handed_out events) × HasThemReserved g (last_disk g id leaves None start events run) (handed_out events)

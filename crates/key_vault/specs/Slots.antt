@@ -55,10 +55,10 @@ staged file id number = overwritten file (64 * other_slot file) (slot_bytes id n
 unfoldable pub advanced : List ℕ → List ℕ → ℕ → List ℕ
 advanced file id number = overwritten (staged file id number) 128 (other_slot file ∷ [])
 
--- an image that has the one number or the other
-abbrev pub HasEither : ℕ → ℕ → List ℕ → Type 0
-HasEither old new image = (reserved_in image ≡ Some old) ⊎ (reserved_in image ≡ Some new)
+-- an image of this key's vault that has the one number or the other
+abbrev pub HasEither : List ℕ → ℕ → ℕ → List ℕ → Type 0
+HasEither id old new image = (id_in image ≡ id) × ((reserved_in image ≡ Some old) ⊎ (reserved_in image ≡ Some new))
 
--- an image with no leaf reserved
-abbrev pub HasNone : List ℕ → Type 0
-HasNone image = (reserved_in image ≡ None) ⊎ (reserved_in image ≡ Some 0)
+-- a blank image, or one of this key's vault with no leaf reserved
+abbrev pub HasNone : List ℕ → List ℕ → Type 0
+HasNone id image = (reserved_in image ≡ None) ⊎ ((id_in image ≡ id) × (reserved_in image ≡ Some 0))

@@ -11,7 +11,9 @@ use cp_outside::Disk;
 /// A key's file on a disk, as it was read or written last: the key's id and its number of leaves,
 /// how many leaves are reserved, and which slot is current. It does not hold its disk, so that a
 /// caller knows what the disk is after each call, also after one that failed; `Vault` is the same
-/// together with the disk.
+/// together with the disk. Nor does it borrow it, so its caller must not load one disk twice: over a
+/// disk that tells nothing the condition of `reserve` holds of a file that is out of date too, which
+/// would hand out its leaves again.
 #[derive(Drop)]
 pub struct VaultFile {
     id: [u8; 32],

@@ -4,7 +4,7 @@ ghost use Rattle.std.specs.Prelude.{◌≡◌, ◌+◌, ◌<◌, ◌≤◌, ◌�
 use std::marker::Model;
 
 /// Leaves of a key that were reserved and not yet taken, from the least one on. Only
-/// `Vault::reserve` makes one.
+/// `VaultFile::reserve` makes one, for itself and for `Vault::reserve`.
 #[derive(Drop)]
 pub struct LeafRange {
     next: u64,
