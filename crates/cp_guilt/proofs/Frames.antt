@@ -37,7 +37,7 @@ shard_below b = omega arith
 pub ordered_in : (s : Store) (r : Chronicle) → Honest s r → (b : ℕ) → Ordered (items_of r b) b
 ordered_in s r h b = ordered (shard_of b) (items_of r b) b (h.shards (shard_of b) (shard_below b)).each
 
-nothing_counted : (s : Store) (r : Chronicle) → Honest s r → (b n : ℕ) → n ≡ 0 → None ≡ counted (cut (items_of r b) b n)
+pub nothing_counted : (s : Store) (r : Chronicle) → Honest s r → (b n : ℕ) → n ≡ 0 → None ≡ counted (cut (items_of r b) b n)
 unfolding tip_after
 nothing_counted s r h b n z = rw (z, (ordered_in s r h b).nothing) refl
 
@@ -61,21 +61,31 @@ pub record HonestTable (s : Store) (r : Chronicle) (c : Closing) (bytes : List �
   pub closing : c ≡ fits.closing
   pub table : bytes ≡ seal.table
 
-pub honest_table : (s : Store) (r : Chronicle) → Honest s r → length s.id ≡ 32 → (P : List ℕ → Type 0) → CollisionFree P → ((t : List ℕ) → Hashed r t → P t) → (x : Envelope) (c : Closing) (bytes : List ℕ)
-    → Signed s r (leaf_of x.signature) x.text → closing_of x.text ≡ Ok c → P bytes → sha256 bytes ≡ c.table → HonestTable s r c bytes
-honest_table s r h id P apart hashed x c bytes signed reads given e =
+-- a signed closing is its seal's, and so is what is the table of each such seal
+pub signed_table : (s : Store) (r : Chronicle) → Honest s r → length s.id ≡ 32 → (x : Envelope) (c : Closing) (bytes : List ℕ) → Signed s r (leaf_of x.signature) x.text → closing_of x.text ≡ Ok c
+    → ((front : List SealItem) (y : SealItem) (back : List SealItem) → r.seals ≡ front ++ y ∷ back → c.epoch ≡ y.epoch → c.table ≡ sha256 y.table → bytes ≡ y.table) → HonestTable s r c bytes
+signed_table s r h id x c bytes signed reads own =
     let k = signed_closing s r h id (leaf_of x.signature) x.text c signed reads in
     let w = k.0 in
     let f : IsSealOf s r w.front w.seal = k.1 in
-    let in_seal : sha256 bytes ≡ sha256 w.seal.table = e ∙ ap (λ (z : Closing). z.table) (k.2 ∙ f.closing_is) in
-    record { front = w.front; seal = w.seal; back = w.back; at = w.at; fits = f; closing = k.2; table = apart bytes w.seal.table given (hashed w.seal.table (hashed_seal r w.front w.seal w.back w.at).1) in_seal }
+    let is = k.2 ∙ f.closing_is in
+    record { front = w.front; seal = w.seal; back = w.back; at = w.at; fits = f; closing = k.2; table = own w.front w.seal w.back w.at (ap (λ (z : Closing). z.epoch) is) (ap (λ (z : Closing). z.table) is) }
+
+pub honest_table : (s : Store) (r : Chronicle) → Honest s r → length s.id ≡ 32 → (P : List ℕ → Type 0) → CollisionFree P → ((t : List ℕ) → Hashed r t → P t) → (x : Envelope) (c : Closing) (bytes : List ℕ)
+    → Signed s r (leaf_of x.signature) x.text → closing_of x.text ≡ Ok c → P bytes → sha256 bytes ≡ c.table → HonestTable s r c bytes
+honest_table s r h id P apart hashed x c bytes signed reads given e =
+    signed_table s r h id x c bytes signed reads (λ front y back at epoch named. apart bytes y.table given (hashed y.table (hashed_seal r front y back at).1) (e ∙ named))
 
 table_epoch : (s : Store) (r : Chronicle) (c : Closing) (bytes : List ℕ) (t : HonestTable s r c bytes) → c.epoch ≡ t.seal.epoch
 table_epoch s r c bytes t = ap (λ (z : Closing). z.epoch) (t.closing ∙ t.fits.closing_is)
 
-table_rows : (s : Store) (r : Chronicle) (c : Closing) (bytes : List ℕ) (t : HonestTable s r c bytes) (rows : List TableRow) → table_of bytes ≡ Ok rows → (b : ℕ) → row_in rows b ≡ counted (cut (items_of r b) b c.epoch)
+pub table_reads : (s : Store) (r : Chronicle) (c : Closing) (bytes : List ℕ) (t : HonestTable s r c bytes) → table_of bytes ≡ Ok t.fits.rows
+table_reads s r c bytes t = ap table_of t.table ∙ t.fits.table
+
+-- its rows are the tips at the end of its epoch
+pub table_rows : (s : Store) (r : Chronicle) (c : Closing) (bytes : List ℕ) (t : HonestTable s r c bytes) (rows : List TableRow) → table_of bytes ≡ Ok rows → (b : ℕ) → row_in rows b ≡ counted (cut (items_of r b) b c.epoch)
 table_rows s r c bytes t rows reads b =
-    let same : rows ≡ t.fits.rows = same_rows bytes rows t.fits.rows reads (ap table_of t.table ∙ t.fits.table) in
+    let same : rows ≡ t.fits.rows = same_rows bytes rows t.fits.rows reads (table_reads s r c bytes t) in
     ap (λ (v : List TableRow). row_in v b) same ∙ t.fits.is_table.each b ∙ ap (λ (n : ℕ). counted (cut (items_of r b) b n)) (sym (table_epoch s r c bytes t))
 
 -- ---- the frame
@@ -132,7 +142,7 @@ no_texts : (b : ℕ) → tip_after b [] ≡ fresh b
 unfolding tip_after latest
 no_texts b = refl
 
-row_is_tip : (b : ℕ) (ts : List (List ℕ)) → tip_or_fresh b (counted (tip_after b ts)) ≡ tip_after b ts
+pub row_is_tip : (b : ℕ) (ts : List (List ℕ)) → tip_or_fresh b (counted (tip_after b ts)) ≡ tip_after b ts
 row_is_tip b ts = go (eqb (tip_after b ts).count 0) refl
   where
     go : (t : Bool) → eqb (tip_after b ts).count 0 ≡ t → tip_or_fresh b (cond t None (Some (tip_after b ts))) ≡ tip_after b ts
@@ -183,18 +193,23 @@ tips_grow s r h b n =
           ap (λ (rs : List RowItem). tip_after b (entries rs)) (sym (o.parts n ∙ ap (λ (l : List RowItem). up_to (items_of r b) b (n - 1) ++ l) nil ∙ append-nil _)),
     )
 
+-- rows that are the tips at the ends of two epochs don't go back
+pub never_back : (s : Store) (r : Chronicle) → Honest s r → (before after : List TableRow) (n b : ℕ) → row_in before b ≡ counted (cut (items_of r b) b (n - 1)) → row_in after b ≡ counted (cut (items_of r b) b n) → regressed before after b ≡ true → ⊥
+unfolding regressed
+never_back s r h before after n b old now back =
+    let c = tips_grow s r h b n in
+    let tips : regressed_from (counted (cut (items_of r b) b (n - 1))) (counted (cut (items_of r b) b n)) ≡ true =
+    ap (λ (o : Option Tip). regressed_from o (counted (cut (items_of r b) b n))) (sym old) ∙ ap (regressed_from (row_in before b)) (sym now) ∙ back in
+    not_back _ _ c.0 c.1 tips
+
 pub not_k6 : (s : Store) (r : Chronicle) (key : List ℕ) (e : WentBack) → Honest s r → length s.id ≡ 32 → HolderSigned s r key (K6 e) → NoneCollide r key (K6 e) → k6_tried key e ≡ Ok tt → ⊥
-unfolding presented regressed
+unfolding presented
 not_k6 s r key e h id holder apart p =
     let g = e.given in
-    let b = e.block in
     let k = shows_k6 key e p in
     let w = k.w in
     let v = honest_frame s r key h id (PresentedOrHashed r key (K6 e)) apart (λ t x. inr x) g w k.framed_is holder.0 holder.1.0 (inl (first_of_list g.table (g.table_before ∷ g.before.text ∷ []))) (inl (second_of_list g.table g.table_before (g.before.text ∷ []))) in
-    let c = tips_grow s r h b w.closing.epoch in
-    let tips : regressed_from (counted (cut (items_of r b) b (w.closing.epoch - 1))) (counted (cut (items_of r b) b w.closing.epoch)) ≡ true =
-    ap (λ (o : Option Tip). regressed_from o (counted (cut (items_of r b) b w.closing.epoch))) (sym (v.old b)) ∙ ap (regressed_from (row_in w.rows_before b)) (sym (v.now b)) ∙ k.back in
-    not_back _ _ c.0 c.1 tips
+    never_back s r h w.rows_before w.rows w.closing.epoch e.block (v.old e.block) (v.now e.block) k.back
 
 -- ---- a table that is not well formed
 
@@ -237,11 +252,15 @@ honest_is_formed s r front x f =
     and_from _ _ f.is_table.ascending (and_from _ _ (all_found f.rows f.is_table.ascending (λ t. leb 1 t.count) (λ b tip e. counted_some _ tip (sym (f.is_table.each b) ∙ e)))
     (and_from _ _ (eq-eqb _ _ (ap (λ (c : Closing). c.rows) (sym f.closing_is))) (eq-eqb _ _ (ap (λ (c : Closing). c.entries) (sym f.closing_is)))))
 
+-- so a table of an honest store is well formed for its closing
+pub table_formed : (s : Store) (r : Chronicle) (c : Closing) (bytes : List ℕ) (t : HonestTable s r c bytes) → rows_for bytes c ≡ Some t.fits.rows
+table_formed s r c bytes t =
+    let formed : well_formed t.fits.rows c.rows c.entries ≡ true = ap (λ (z : Closing). well_formed t.fits.rows z.rows z.entries) t.closing ∙ honest_is_formed s r t.front t.seal t.fits in
+    rows_for_from bytes c t.fits.rows (table_reads s r c bytes t) formed
+
 pub not_k4 : (s : Store) (r : Chronicle) (key : List ℕ) (e : ClosingTable) → Honest s r → length s.id ≡ 32 → HolderSigned s r key (K4 e) → NoneCollide r key (K4 e) → k4_tried key e ≡ Ok tt → ⊥
 unfolding presented
 not_k4 s r key e h id holder apart p =
     let k = shows_k4 key e p in
     let t = honest_table s r h id (PresentedOrHashed r key (K4 e)) apart (λ u y. inr y) e.closing k.c e.table (holder.0 k.signed) k.c_is (inl (first_of_list e.table [])) k.table in
-    let reads : table_of e.table ≡ Ok t.fits.rows = ap table_of t.table ∙ t.fits.table in
-    let formed : well_formed t.fits.rows k.c.rows k.c.entries ≡ true = ap (λ (z : Closing). well_formed t.fits.rows z.rows z.entries) t.closing ∙ honest_is_formed s r t.front t.seal t.fits in
-    k.not_formed t.fits.rows (rows_for_from e.table k.c t.fits.rows reads formed)
+    k.not_formed t.fits.rows (table_formed s r k.c e.table t)

@@ -5,3 +5,4 @@ pub mod Frames
 pub mod SegmentsOfLife
 pub mod NoFraming
 pub mod HonestLemmas
+pub mod OwnLemmas

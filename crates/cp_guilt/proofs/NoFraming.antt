@@ -17,7 +17,8 @@ use Rattle.cp_guilt.proofs.Envelopes.{not_k1, not_k2, not_k3, not_k5, not_k9, no
 use Rattle.cp_guilt.proofs.Frames.{not_k4, not_k6}
 use Rattle.cp_guilt.proofs.SegmentsOfLife.{not_k7, not_k8}
 
-by_kind : (s : Store) (r : Chronicle) (key : List ℕ) (e : Evidence) → s.id ≡ sha256 key → length s.id ≡ 32 → Honest s r → HolderSigned s r key e → NoneCollide r key e → tried key e ≡ Ok tt → ⊥
+-- no evidence of any kind convicts
+pub by_kind : (s : Store) (r : Chronicle) (key : List ℕ) (e : Evidence) → s.id ≡ sha256 key → length s.id ≡ 32 → Honest s r → HolderSigned s r key e → NoneCollide r key e → tried key e ≡ Ok tt → ⊥
 by_kind s r key (K1 e) own id h holder apart p = not_k1 s r key e h id holder p
 by_kind s r key (K2 e) own id h holder apart p = not_k2 s r key e h holder p
 by_kind s r key (K3 e) own id h holder apart p = not_k3 s r key e h id holder p

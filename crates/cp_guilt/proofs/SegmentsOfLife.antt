@@ -1,6 +1,6 @@
 -- Segments against an honest life: one that reaches is the epoch's own, so it is legal, and each
 -- attestation of the epoch stands in it.
-use Rattle.std.proofs.Common.{◌≡◌, ℕ, ◌+◌, ◌-◌, ◌<◌, true, ◌&&◌, eqb, leb, List, [], ◌∷◌, ◌++◌, length, get_or, take, Result, Ok, inl, inr, refl, sym, ap, subst, ◌∙◌, append_assoc, arith}
+use Rattle.std.proofs.Common.{◌≡◌, ℕ, ◌+◌, ◌-◌, ◌<◌, ◌≤◌, true, ◌&&◌, eqb, leb, List, [], ◌∷◌, ◌++◌, length, get_or, take, Result, Ok, inl, inr, refl, sym, ap, subst, ◌∙◌, append_assoc, arith}
 use Rattle.std.specs.Prelude.{bytes_eq, Contains}
 use Rattle.std.specs.List.{AllByRecursion}
 use Rattle.std.specs.Result.{result_ok}
@@ -19,14 +19,14 @@ use Rattle.cp_families.specs.Families.{FamilyRow, families_of}
 use Rattle.cp_chain.specs.Each.{Each}
 use Rattle.cp_chain.specs.Frame.{Frame}
 use Rattle.cp_chain.specs.Legal.{ok_and}
-use Rattle.cp_chain.specs.Rules.{broken, text_at}
+use Rattle.cp_chain.specs.Rules.{broken, text_at, Found}
 use Rattle.cp_chain.specs.Standing.{reaches, says_the_same, stands}
 use Rattle.cp_chain.proofs.Each.{each_front}
 use Rattle.cp_chain.proofs.Chain.{same_segments, head_after-append, chain_texts-append, legal_unbroken}
 use Rattle.cp_core.specs.Store.{Store, list_at, writers, or_nil}
 use Rattle.cp_core.specs.Life.{RowItem, row_item, freezes, rows_of, in_epoch, up_to, entries, tip_after, cut, shard_of, items_of}
 use Rattle.cp_core.specs.Calls.{attested, head_of}
-use Rattle.cp_core.specs.Honest.{Honest, IsItemOf, epoch_frame, SignedRow, Hashed}
+use Rattle.cp_core.specs.Honest.{Honest, IsItemOf, epoch_frame, SignedRow, Signed, Hashed}
 use Rattle.cp_core.specs.declared.item.Item.{Item}
 use Rattle.cp_core.specs.declared.chronicle.Chronicle.{Chronicle}
 use Rattle.cp_core.proofs.RowLemmas.{spells_reads}
@@ -88,17 +88,28 @@ honest_segment s r h P apart hashed b n f ts before after given e =
 
 -- ---- an illegal segment
 
-frame_at : List ℕ → List FamilyRow → ℕ → ℕ → Tip → Tip → Frame
+abbrev pub frame_at : List ℕ → List FamilyRow → ℕ → ℕ → Tip → Tip → Frame
 frame_at store families n b before after = record { side = record { store = store; families = families; epoch = n; block = b; before = before }; after = after }
 
-frames_same : (s : Store) (r : Chronicle) (store : List ℕ) (families : List FamilyRow) (b n : ℕ) (before after : Tip) → store ≡ s.id → families ≡ list_at s (items_of r b) n → before ≡ cut (items_of r b) b (n - 1) → after ≡ cut (items_of r b) b n
+pub frames_same : (s : Store) (r : Chronicle) (store : List ℕ) (families : List FamilyRow) (b n : ℕ) (before after : Tip) → store ≡ s.id → families ≡ list_at s (items_of r b) n → before ≡ cut (items_of r b) b (n - 1) → after ≡ cut (items_of r b) b n
     → frame_at store families n b before after ≡ epoch_frame s (items_of r b) b n
-unfolding frame_at
 frames_same s r store families b n before after p q u v =
     ap (λ (x : List ℕ). frame_at x families n b before after) p ∙ ap (λ (x : List FamilyRow). frame_at s.id x n b before after) q ∙ ap (λ (x : Tip). frame_at s.id (list_at s (items_of r b) n) n b x after) u ∙ ap (frame_at s.id (list_at s (items_of r b) n) n b (cut (items_of r b) b (n - 1))) v
 
+-- the rows of the store's list
+pub writers_are : (s : Store) (text : List ℕ) (rows : List FamilyRow) → families_of text ≡ Ok rows → text ≡ s.families → rows ≡ writers s
+unfolding writers
+writers_are s text rows reads same = ap or_nil (sym reads ∙ ap families_of same)
+
+-- no rule is broken in the epoch's own segment
+pub own_unbroken : (s : Store) (r : Chronicle) → Honest s r → (f : Frame) (b n : ℕ) (ts : List (List ℕ)) (x : Found) → f ≡ epoch_frame s (items_of r b) b n → ts ≡ entries (in_epoch (items_of r b) b n) → broken f ts x.rule x.place x.other ≡ true → ⊥
+own_unbroken s r h f b n ts x frames segment breaking =
+    let bad : broken (epoch_frame s (items_of r b) b n) (entries (in_epoch (items_of r b) b n)) x.rule x.place x.other ≡ true =
+    ap (λ (y : Frame). broken y (entries (in_epoch (items_of r b) b n)) x.rule x.place x.other) (sym frames) ∙ ap (λ (l : List (List ℕ)). broken f l x.rule x.place x.other) (sym segment) ∙ breaking in
+    legal_unbroken (epoch_frame s (items_of r b) b n) (entries (in_epoch (items_of r b) b n)) x.rule x.place x.other ((h.shards (shard_of b) (omega arith)).legal b n) bad
+
 pub not_k7 : (s : Store) (r : Chronicle) (key : List ℕ) (e : BrokenRule) → Honest s r → length s.id ≡ 32 → s.id ≡ sha256 key → HolderSigned s r key (K7 e) → NoneCollide r key (K7 e) → k7_tried key e ≡ Ok tt → ⊥
-unfolding presented writers frame_at
+unfolding presented
 not_k7 s r key e h id own holder apart p =
     let P : List ℕ → Type 0 = PresentedOrHashed r key (K7 e) in
     let g : Given = e.given in
@@ -112,15 +123,13 @@ not_k7 s r key e h id own holder apart p =
     let rest : List (List ℕ) = g.table_before ∷ tail in
     let v : HonestFrame s r w = honest_frame s r key h id P apart (λ t x. inr x) g w k.framed_is holder.0 holder.1.0 (inl (second_of_list e.families g.table rest)) (inl (behind_first e.families g.table_before (g.table ∷ (g.table_before ∷ tail)) (second_of_list g.table g.table_before tail))) in
     let list : e.families ≡ s.families = apart e.families s.families (inl (first_of_list e.families (g.table ∷ rest))) (inr (subst (Hashed r) v.seal_families (hashed_seal r v.front v.seal v.back v.at).2)) (k.families_named ∙ v.families) in
-    let writes : k.families ≡ writers s = ap or_nil (sym k.families_are ∙ ap families_of list) in
+    let writes : k.families ≡ writers s = writers_are s e.families k.families k.families_are list in
     let before = row_old s r w v b in
     let after = row_now s r w v b in
     let chain : AllByRecursion P (chain_texts (row w.rows_before b).head ts) = all_contained P (chain_texts (row w.rows_before b).head ts) (λ t x. inl (behind_first e.families t (given_texts g ++ chained) (Contains-append_right (given_texts g) chained t (subst (λ (y : Result Framed ℕ). Contains (chain_texts (opening_head y b) ts) t) (sym k.framed_is) x)))) in
     let segment : ts ≡ entries (in_epoch (items_of r b) b n) = honest_segment s r h P apart (λ t x. inr x) b n (frame_of key k.families w b) ts before after chain k.reaching in
     let frames : frame_of key k.families w b ≡ epoch_frame s (items_of r b) b n = frames_same s r (sha256 key) k.families b n (row w.rows_before b) (row w.rows b) (sym own) (writes ∙ sym (list_is s (items_of r b) n)) before after in
-    let bad : broken (epoch_frame s (items_of r b) b n) (entries (in_epoch (items_of r b) b n)) e.fault.rule e.fault.place e.fault.other ≡ true =
-    ap (λ (y : Frame). broken y (entries (in_epoch (items_of r b) b n)) e.fault.rule e.fault.place e.fault.other) (sym frames) ∙ ap (λ (l : List (List ℕ)). broken (frame_of key k.families w b) l e.fault.rule e.fault.place e.fault.other) (sym segment) ∙ k.breaking in
-    legal_unbroken (epoch_frame s (items_of r b) b n) (entries (in_epoch (items_of r b) b n)) e.fault.rule e.fault.place e.fault.other ((h.shards (shard_of b) (omega arith)).legal b n) bad
+    own_unbroken s r h (frame_of key k.families w b) b n ts e.fault frames segment k.breaking
 
 -- ---- an attestation that does not stand
 
@@ -185,8 +194,45 @@ honest_stands store prev e text f earlier later reads spelled position below hea
     ap (head prev) (sym spelled) ∙ ap (λ (p : List ℕ). head p text) heads ∙ sym (head_after-append f.side.before.head earlier (text ∷ [])) ∙ ap (head_after f.side.before.head) (sym more) in
     and_from _ _ (le-leb _ _ (omega (arith, position))) (and_from _ _ (lt-ltb _ _ below) (and_from _ _ said (and_from _ _ (same_bytes _ _ (heads ∙ ap (head_after f.side.before.head) (sym front))) (same_bytes _ _ after))))
 
+-- an attestation lies between the tips of an epoch, and stands in its own segment
+pub record StandsThere (f : Frame) (own : List (List ℕ)) (a : Attestation) : Type 0 where
+  pub starts : f.side.before.count ≤ a.position
+  pub ends : a.position < f.after.count
+  pub standing : stands f own a ≡ true
+
+-- each that was signed in the life for the epoch does
+pub own_stands : (s : Store) (r : Chronicle) → Honest s r → length s.id ≡ 32 → (leaf : ℕ) (text : List ℕ) (a : Attestation) → Signed s r leaf text → attestation_of text ≡ Ok a → (n : ℕ) → a.epoch ≡ n
+    → (f : Frame) → f.side.before ≡ cut (items_of r a.block) a.block (n - 1) → f.after ≡ cut (items_of r a.block) a.block n → StandsThere f (entries (in_epoch (items_of r a.block) a.block n)) a
+unfolding attested
+own_stands s r h id leaf text a signed reads n epoch f opens ends =
+    let k = signed_attestation s r h id leaf text a signed reads in
+    let wr : SignedRow s r leaf text = k.0 in
+    let b : ℕ = wr.entry.block in
+    let value : Attestation = attested s.id (head_of wr.front wr.entry.block) wr.entry in
+    let a_is : a ≡ value = k.1 in
+    let blocks : a.block ≡ b = ap (λ (z : Attestation). z.block) a_is in
+    let position : a.position ≡ wr.entry.position = ap (λ (z : Attestation). z.position) a_is in
+    let epochs : wr.entry.epoch ≡ n = ap (λ (z : Attestation). z.epoch) (sym a_is) ∙ epoch in
+    let st : StandsAt s r leaf text wr n = stands_at s r h leaf text wr n epochs in
+    let before : f.side.before ≡ cut (items_of r b) b (n - 1) = opens ∙ ap (λ (c : ℕ). cut (items_of r c) c (n - 1)) blocks in
+    let after : f.after ≡ cut (items_of r b) b n = ends ∙ ap (λ (c : ℕ). cut (items_of r c) c n) blocks in
+    let now_count : (cut (items_of r b) b n).count ≡ (cut (items_of r b) b (n - 1)).count + length (entries (in_epoch (items_of r b) b n)) = count_law (items_of r b) b n (ordered_in s r h b) in
+    let sizes : length (entries (in_epoch (items_of r b) b n)) ≡ length (st.earlier ++ wr.row.entry ∷ st.later) = ap length st.segment in
+    let counts : f.side.before.count ≡ (cut (items_of r b) b (n - 1)).count = ap (λ (t : Tip). t.count) before in
+    let counts_after : f.after.count ≡ (cut (items_of r b) b n).count = ap (λ (t : Tip). t.count) after in
+    let starts : wr.entry.position ≡ f.side.before.count + length st.earlier = omega (arith, st.position, counts) in
+    let below : wr.entry.position < f.after.count = omega (arith, starts, counts, counts_after, now_count, sizes, length-append st.earlier (wr.row.entry ∷ st.later)) in
+    let heads : head_of wr.front b ≡ head_after f.side.before.head st.earlier = st.heads ∙ ap (λ (t : Tip). head_after t.head st.earlier) (sym before) in
+    let stood : stands f (st.earlier ++ wr.row.entry ∷ st.later) value ≡ true = honest_stands s.id (head_of wr.front b) wr.entry wr.row.entry f st.earlier st.later (spells_reads wr.row.entry wr.entry wr.spells) wr.spells.spelled starts below heads in
+    let segment : entries (in_epoch (items_of r a.block) a.block n) ≡ st.earlier ++ wr.row.entry ∷ st.later = ap (λ (c : ℕ). entries (in_epoch (items_of r c) c n)) blocks ∙ st.segment in
+    record {
+      starts = omega (arith, starts, position);
+      ends = omega (arith, below, position);
+      standing = ap (λ (l : List (List ℕ)). stands f l a) segment ∙ ap (stands f (st.earlier ++ wr.row.entry ∷ st.later)) a_is ∙ stood;
+    }
+
 pub not_k8 : (s : Store) (r : Chronicle) (key : List ℕ) (e : Lost) → Honest s r → length s.id ≡ 32 → HolderSigned s r key (K8 e) → NoneCollide r key (K8 e) → k8_tried key e ≡ Ok tt → ⊥
-unfolding presented attested
+unfolding presented
 not_k8 s r key e h id holder apart p =
     let P : List ℕ → Type 0 = PresentedOrHashed r key (K8 e) in
     let g : Given = e.given in
@@ -194,31 +240,16 @@ not_k8 s r key e h id holder apart p =
     let ts : List (List ℕ) = e.segment in
     let v : ShowsK8 key e = shows_k8 key e p in
     let n : ℕ = v.w.closing.epoch in
+    let b : ℕ = v.a.block in
     let chained : List (List ℕ) = chain_texts (opening_head (framed key g) (block_in (result_ok (attestation_of x.text)))) ts in
     let sides : HonestFrame s r v.w = honest_frame s r key h id P apart (λ t y. inr y) g v.w v.framed_is holder.0 holder.1.0 (inl (first_of_list g.table (g.table_before ∷ (g.before.text ∷ chained)))) (inl (second_of_list g.table g.table_before (g.before.text ∷ chained))) in
-    let k = signed_attestation s r h id (leaf_of x.signature) x.text v.a (holder.1.1.0 v.signed) v.a_is in
-    let wr : SignedRow s r (leaf_of x.signature) x.text = k.0 in
-    let b : ℕ = wr.entry.block in
-    let value : Attestation = attested s.id (head_of wr.front wr.entry.block) wr.entry in
-    let a_is : v.a ≡ value = k.1 in
-    let blocks : v.a.block ≡ b = ap (λ (z : Attestation). z.block) a_is in
-    let position : v.a.position ≡ wr.entry.position = ap (λ (z : Attestation). z.position) a_is in
-    let epochs : wr.entry.epoch ≡ n = ap (λ (z : Attestation). z.epoch) (sym a_is) ∙ v.epochs in
-    let st : StandsAt s r (leaf_of x.signature) x.text wr n = stands_at s r h (leaf_of x.signature) x.text wr n epochs in
     let f : Frame = frame_of key [] v.w v.a.block in
-    let before : f.side.before ≡ cut (items_of r b) b (n - 1) = ap (row v.w.rows_before) blocks ∙ row_old s r v.w sides b in
-    let after : f.after ≡ cut (items_of r b) b n = ap (row v.w.rows) blocks ∙ row_now s r v.w sides b in
-    let now_count : (cut (items_of r b) b n).count ≡ (cut (items_of r b) b (n - 1)).count + length (entries (in_epoch (items_of r b) b n)) = count_law (items_of r b) b n (ordered_in s r h b) in
-    let sizes : length (entries (in_epoch (items_of r b) b n)) ≡ length (st.earlier ++ wr.row.entry ∷ st.later) = ap length st.segment in
-    let counts : f.side.before.count ≡ (cut (items_of r b) b (n - 1)).count = ap (λ (t : Tip). t.count) before in
-    let counts_after : f.after.count ≡ (cut (items_of r b) b n).count = ap (λ (t : Tip). t.count) after in
-    let starts : wr.entry.position ≡ f.side.before.count + length st.earlier = omega (arith, st.position, counts) in
-    let below : wr.entry.position < f.after.count = omega (arith, starts, counts, counts_after, now_count, sizes, length-append st.earlier (wr.row.entry ∷ st.later)) in
-    let lost = v.lost (le-leb _ _ (omega (arith, starts, position))) (lt-ltb _ _ (omega (arith, below, position))) in
+    let before : f.side.before ≡ cut (items_of r b) b (n - 1) = row_old s r v.w sides b in
+    let after : f.after ≡ cut (items_of r b) b n = row_now s r v.w sides b in
+    let st : StandsThere f (entries (in_epoch (items_of r b) b n)) v.a = own_stands s r h id (leaf_of x.signature) x.text v.a (holder.1.1.0 v.signed) v.a_is n v.epochs f before after in
+    let lost = v.lost (le-leb _ _ st.starts) (lt-ltb _ _ st.ends) in
     let opened : chained ≡ chain_texts f.side.before.head ts =
     ap (λ (y : Result Framed ℕ). chain_texts (opening_head y (block_in (result_ok (attestation_of x.text)))) ts) v.framed_is ∙ ap (λ (y : Result Attestation ℕ). chain_texts (opening_head (Ok v.w) (block_in (result_ok y))) ts) v.a_is in
     let chain : AllByRecursion P (chain_texts f.side.before.head ts) = all_contained P (chain_texts f.side.before.head ts) (λ t y. inl (Contains-append_right (given_texts g) chained t (subst (λ (l : List (List ℕ)). Contains l t) (sym opened) y))) in
-    let segment : ts ≡ st.earlier ++ wr.row.entry ∷ st.later = honest_segment s r h P apart (λ t y. inr y) b n f ts before after chain lost.0 ∙ st.segment in
-    let heads : head_of wr.front b ≡ head_after f.side.before.head st.earlier = st.heads ∙ ap (λ (t : Tip). head_after t.head st.earlier) (sym before) in
-    let standing : stands f (st.earlier ++ wr.row.entry ∷ st.later) value ≡ true = honest_stands s.id (head_of wr.front b) wr.entry wr.row.entry f st.earlier st.later (spells_reads wr.row.entry wr.entry wr.spells) wr.spells.spelled starts below heads in
-    lost.1 (ap (λ (l : List (List ℕ)). stands f l v.a) segment ∙ ap (stands f (st.earlier ++ wr.row.entry ∷ st.later)) a_is ∙ standing)
+    let segment : ts ≡ entries (in_epoch (items_of r b) b n) = honest_segment s r h P apart (λ t y. inr y) b n f ts before after chain lost.0 in
+    lost.1 (ap (λ (l : List (List ℕ)). stands f l v.a) segment ∙ st.standing)

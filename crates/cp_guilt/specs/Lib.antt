@@ -1,3 +1,4 @@
 pub mod Framing
 pub mod Laws
 pub mod HonestAudit
+pub mod OwnAudit

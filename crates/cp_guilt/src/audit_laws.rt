@@ -1,5 +1,6 @@
-//! The law on what the audit finds of an honest store.
+//! The laws on what the audit finds of an honest store.
 ghost use Rattle.cp_guilt.specs.HonestAudit.{HonestIsClean};
+ghost use Rattle.cp_guilt.specs.OwnAudit.{OwnIsClean};
 
 /// Given material of an honest store is clean, whoever hands it in and whatever is handed in with it.
 /// Each given closing and each hand-in was signed in its life if it verifies (the holder of the key
@@ -7,4 +8,11 @@ ghost use Rattle.cp_guilt.specs.HonestAudit.{HonestIsClean};
 /// have one digest (they are collision-free).
 pub fn honest_is_clean()
     ensures { HonestIsClean }
+{}
+
+/// Where the given texts are the life's own (its families list, the tables of its seals, the log of its
+/// rows of the epoch), they are clean whatever digests do: that the holder of the key alone signs is
+/// enough.
+pub fn own_is_clean()
+    ensures { OwnIsClean }
 {}

@@ -16,8 +16,9 @@ use Rattle.cp_evidence.specs.Verdict.{guilt, verdict_by}
 use Rattle.cp_evidence.proofs.AuditLemmas.{clean_exact}
 use Rattle.cp_evidence.proofs.GivenFacts.{given_all}
 use Rattle.cp_guilt.proofs.HonestLemmas.{honest_clean}
+use Rattle.cp_guilt.proofs.OwnLemmas.{own_clean}
 use Rattle.cp_tool.specs.AuditRuns.{AnswerEnds, AuditEnds, Sources, answered, files_in, sources_of, verdict_of}
-use Rattle.cp_tool.specs.AuditStatus.{AuditStatus, IsHonest, Readable}
+use Rattle.cp_tool.specs.AuditStatus.{AuditStatus, IsHonest, IsOwn, Readable}
 use Rattle.cp_tool.specs.AuditWords.{AuditWords}
 use Rattle.cp_tool.specs.Commands.{Command}
 use Rattle.cp_tool.specs.Commands.Command.{Audit}
@@ -61,7 +62,10 @@ module _ (sources : Sources) where
         apart h = absurd cc
 
     honest_there : (x : Readable sources) → IsHonest sources x → sound.Clean x.epoch x.hand_ins
-    honest_there x h = honest_clean h.store h.life sources.material x.epoch x.hand_ins h.id x.given h.honest h.signed h.apart
+    honest_there x h = let l = h.life in honest_clean l.store l.chronicle sources.material x.epoch x.hand_ins l.id x.given l.honest l.signed h.apart
+
+    own_there : (x : Readable sources) → IsOwn sources x → sound.Clean x.epoch x.hand_ins
+    own_there x h = let l = h.life in own_clean l.store l.chronicle sources.material x.epoch x.hand_ins l.id x.given l.honest l.signed h.own
 
   -- ---- what the status says
 
@@ -75,6 +79,7 @@ module _ (sources : Sources) where
       where_clean = λ x c. inr high;
       where_guilty = λ x c. inr high;
       where_honest = λ x h. inr high;
+      where_own = λ x h. inr high;
     }
       where
         not : (status ≡ 4) ⊎ (status ≡ 5) → (n : ℕ) → status ≡ n → (n < 4) → ⊥
@@ -90,6 +95,7 @@ module _ (sources : Sources) where
       where_clean = λ x c. absurd (unreadable x);
       where_guilty = λ x c. absurd (unreadable x);
       where_honest = λ x h. absurd (unreadable x);
+      where_own = λ x h. absurd (unreadable x);
     }
 
     module _ (o : GivenEpoch) (hand_ins : List Envelope) (given : given_of sources.material ≡ Ok o) (read : hand_ins_of sources.hand_ins ≡ Ok hand_ins) where
@@ -102,6 +108,7 @@ module _ (sources : Sources) where
         where_clean = λ x c. inl zero_is;
         where_guilty = λ x not. absurd (not (clean_there o hand_ins given read none x));
         where_honest = λ x h. inl zero_is;
+        where_own = λ x h. inl zero_is;
       }
 
       when_guilty : (e : Evidence) → guilt o hand_ins ≡ Some e → status ≡ 1 → evidence ≡ Some (evidence_text e) → Convicts sources.material.key (evidence_text e) → AuditStatus sources evidence status
@@ -113,6 +120,7 @@ module _ (sources : Sources) where
         where_clean = λ x c. absurd (guilty_there o hand_ins given read found some x c);
         where_guilty = λ x not. inl one;
         where_honest = λ x h. absurd (guilty_there o hand_ins given read found some x (honest_there o hand_ins given read x h));
+        where_own = λ x h. absurd (guilty_there o hand_ins given read found some x (own_there o hand_ins given read x h));
       }
 
 -- ---- the ending

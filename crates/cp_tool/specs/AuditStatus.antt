@@ -11,6 +11,7 @@ use Rattle.cp_evidence.specs.HandIns.{hand_ins_of}
 use Rattle.cp_evidence.specs.Material.{GivenEpoch, given_of}
 use Rattle.cp_evidence.specs.Sound.{Clean}
 use Rattle.cp_guilt.specs.HonestAudit.{AuditedOrHashed, HolderSignedAll}
+use Rattle.cp_guilt.specs.OwnAudit.{OwnTexts}
 use Rattle.cp_tool.specs.AuditRuns.{Sources}
 
 -- the material is given, and the hand-ins read
@@ -24,20 +25,29 @@ pub record Readable (sources : Sources) : Type 0 where
 abbrev pub Unless : ℕ → ℕ → Type 0
 Unless status wanted = (status ≡ wanted) ⊎ ((status ≡ 4) ⊎ (status ≡ 5))
 
--- the texts are those of an honest store's life, signed by the holder of the key alone, and no two
--- different texts among those that the audit hashes and those of the life have one digest
-pub record IsHonest (sources : Sources) (x : Readable sources) : Type 0 where
+-- the life of an honest store with this key, whose holder alone signed the given closings and the hand-ins
+pub record SignedLife (sources : Sources) (x : Readable sources) : Type 0 where
   pub store : Store
-  pub life : Chronicle
+  pub chronicle : Chronicle
   pub id : store.id ≡ sha256 sources.material.key
-  pub honest : Honest store life
-  pub signed : HolderSignedAll store life sources.material.key x.epoch x.hand_ins
-  pub apart : CollisionFree (AuditedOrHashed life x.epoch x.hand_ins)
+  pub honest : Honest store chronicle
+  pub signed : HolderSignedAll store chronicle sources.material.key x.epoch x.hand_ins
+
+-- the texts are those of an honest store's life, and no two different ones among those that the audit
+-- hashes and those of the life have one digest
+pub record IsHonest (sources : Sources) (x : Readable sources) : Type 0 where
+  pub life : SignedLife sources x
+  pub apart : CollisionFree (AuditedOrHashed life.chronicle x.epoch x.hand_ins)
+
+-- the texts are the life's own
+pub record IsOwn (sources : Sources) (x : Readable sources) : Type 0 where
+  pub life : SignedLife sources x
+  pub own : OwnTexts life.store life.chronicle x.epoch
 
 -- What the status says of files that were within their limits, beside the file that evidence is written
 -- to. 0 comes exactly where the material is given, the hand-ins read and the epoch is clean, and 1
 -- exactly where they are given and read and it is not; then the evidence that was written convicts. Of an
--- honest store 0 comes.
+-- honest store 0 comes, of its own texts whatever digests do.
 pub record AuditStatus (sources : Sources) (written : Option (List ℕ)) (status : ℕ) : Type 0 where
   pub clean : status ≡ 0 → (x : Readable sources) × Clean x.epoch x.hand_ins
   pub guilty : status ≡ 1 → (x : Readable sources) × ¬ Clean x.epoch x.hand_ins
@@ -46,3 +56,4 @@ pub record AuditStatus (sources : Sources) (written : Option (List ℕ)) (status
   pub where_clean : (x : Readable sources) → Clean x.epoch x.hand_ins → Unless status 0
   pub where_guilty : (x : Readable sources) → ¬ Clean x.epoch x.hand_ins → Unless status 1
   pub where_honest : (x : Readable sources) → IsHonest sources x → Unless status 0
+  pub where_own : (x : Readable sources) → IsOwn sources x → Unless status 0
