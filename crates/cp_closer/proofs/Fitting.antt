@@ -28,34 +28,34 @@ use Rattle.cp_core.proofs.TableLemmas.{Above, Rising, member, rising_blocks}
 use Rattle.cp_closer.specs.Taken.{put_all, tips_of, count_or_none, count_of, entries_of_shard}
 use Rattle.cp_closer.specs.Closer.{CloserState, epoch_of, blocks_ascend, IsNextBlock, IsNextPart}
 use Rattle.cp_closer.specs.Kept.{taken_in}
-use Rattle.cp_closer.specs.Laws.{parts_below, parts_up_to, sealed_in, IsCloserOf, PartsFit}
+use Rattle.cp_closer.specs.Laws.{parts_below, parts_up_to, sealed_in, StandsRightly, IsCloserOf, PartsFit}
 use Rattle.cp_closer.proofs.Puts.{put_all-append}
 use Rattle.cp_closer.proofs.Inserts.{Sorted, at_block, less_cmp, put_all_sorted, put_all_at, or_else, found_each}
-use Rattle.cp_closer.proofs.Lives.{member_now, member_nowhere}
+use Rattle.cp_closer.proofs.Lives.{rightly, member_now, member_nowhere}
 use Rattle.cp_closer.proofs.LifeSeals.{below, tip_at, tip_of_epoch, gives_tips, tip_then, given, seen, tips_up_to}
 use Rattle.cp_closer.proofs.Shares.{total, blocks_share}
 use Rattle.cp_closer.proofs.Weights.{weight, is_of, own_gain, counted_blocks, put_weight}
 
 -- ---- the tips of a closing that has begun
 
-part_at : (s : Store) (r : Chronicle) → Honest s r → (n j : ℕ) → j ≤ 16 → (b : ℕ) → at_block b (put_all [] (flat_map tips_of (parts_up_to r.shards n ++ parts_below r.shards (suc n) j))) ≡ or_else (cond (ltb (shard_of b) j) (given (tip_then (suc n)) r (suc n) b) None) (seen (cut (items_of r b) b n))
-part_at s r h n j le b =
+part_at : (r : Chronicle) → StandsRightly r → (n j : ℕ) → j ≤ 16 → (b : ℕ) → at_block b (put_all [] (flat_map tips_of (parts_up_to r.shards n ++ parts_below r.shards (suc n) j))) ≡ or_else (cond (ltb (shard_of b) j) (given (tip_then (suc n)) r (suc n) b) None) (seen (cut (items_of r b) b n))
+part_at r h n j le b =
     ap (λ (xs : List (ℕ × Tip)). at_block b (put_all [] xs)) (flat_map-append tips_of (parts_up_to r.shards n) (parts_below r.shards (suc n) j))
     ∙ ap (at_block b) (put_all-append [] (flat_map tips_of (parts_up_to r.shards n)) (flat_map tips_of (parts_below r.shards (suc n) j)))
     ∙ put_all_at (tips_up_to r n) (flat_map tips_of (parts_below r.shards (suc n) j)) b
-    ∙ ap (λ (x : Option Tip). or_else x (at_block b (tips_up_to r n))) (below tips_of (tip_then (suc n)) (suc n) (gives_tips (suc n)) s r h b j le)
-    ∙ ap (or_else (cond (ltb (shard_of b) j) (given (tip_then (suc n)) r (suc n) b) None)) (tip_at s r h b n)
+    ∙ ap (λ (x : Option Tip). or_else x (at_block b (tips_up_to r n))) (below tips_of (tip_then (suc n)) (suc n) (gives_tips (suc n)) r h b j le)
+    ∙ ap (or_else (cond (ltb (shard_of b) j) (given (tip_then (suc n)) r (suc n) b) None)) (tip_at r h b n)
 
 -- before the shard's part and after it
-before_part : (s : Store) (r : Chronicle) → Honest s r → (n k : ℕ) → k < 16 → (b : ℕ) → shard_of b ≡ k → at_block b (put_all [] (flat_map tips_of (parts_up_to r.shards n ++ parts_below r.shards (suc n) k))) ≡ seen (cut (items_of r b) b n)
+before_part : (r : Chronicle) → StandsRightly r → (n k : ℕ) → k < 16 → (b : ℕ) → shard_of b ≡ k → at_block b (put_all [] (flat_map tips_of (parts_up_to r.shards n ++ parts_below r.shards (suc n) k))) ≡ seen (cut (items_of r b) b n)
 unfolding or_else
-before_part s r h n k lt b of = part_at s r h n k (omega (arith, lt)) b ∙ rw (le-ltb (shard_of b) k (omega (arith, of))) refl
+before_part r h n k lt b of = part_at r h n k (omega (arith, lt)) b ∙ rw (le-ltb (shard_of b) k (omega (arith, of))) refl
 
-after_part : (s : Store) (r : Chronicle) → Honest s r → (n k : ℕ) → k < 16 → (b : ℕ) → shard_of b ≡ k → at_block b (put_all [] (flat_map tips_of (parts_up_to r.shards n ++ parts_below r.shards (suc n) (suc k)))) ≡ seen (cut (items_of r b) b (suc n))
-after_part s r h n k lt b of =
-    part_at s r h n (suc k) (omega (arith, lt)) b
+after_part : (r : Chronicle) → StandsRightly r → (n k : ℕ) → k < 16 → (b : ℕ) → shard_of b ≡ k → at_block b (put_all [] (flat_map tips_of (parts_up_to r.shards n ++ parts_below r.shards (suc n) (suc k)))) ≡ seen (cut (items_of r b) b (suc n))
+after_part r h n k lt b of =
+    part_at r h n (suc k) (omega (arith, lt)) b
     ∙ ap (λ (t : Bool). or_else (cond t (given (tip_then (suc n)) r (suc n) b) None) (seen (cut (items_of r b) b n))) (lt-ltb (shard_of b) (suc k) (omega (arith, of)))
-    ∙ tip_of_epoch r b n (ordered (shard_of b) (items_of r b) b (h.shards (shard_of b) (omega arith)).each)
+    ∙ tip_of_epoch r b n (ordered (shard_of b) (items_of r b) b (h.each (shard_of b) (omega arith)))
 
 count_seen : (t : spec.Tip) → count_or_none (seen t) ≡ t.count
 count_seen t = pick (eqb t.count 0) refl
@@ -139,16 +139,16 @@ each_member P items n (b ∷ bs) cs within each = (each b (within b (rw (eq-eqb 
     behind true u e = refl
     behind false u e = e
 
-next_block : (s : Store) (r : Chronicle) (c : CloserState) (n k : ℕ) → Honest s r → c.tips ≡ put_all [] (flat_map tips_of (parts_up_to r.shards n ++ parts_below r.shards (suc n) k)) → k < 16 → AllByRecursion (λ (x : RowItem). length x.entry < 2 ^ 32) (rows_in (get_or r.shards k []))
+next_block : (r : Chronicle) (c : CloserState) (n k : ℕ) → StandsRightly r → c.tips ≡ put_all [] (flat_map tips_of (parts_up_to r.shards n ++ parts_below r.shards (suc n) k)) → k < 16 → AllByRecursion (λ (x : RowItem). length x.entry < 2 ^ 32) (rows_in (get_or r.shards k []))
     → (b : ℕ) → member b (blocks_in (rows_in (get_or r.shards k [])) (suc n)) ≡ true → IsNextBlock c.tips k (frozen_block (get_or r.shards k []) (suc n) b)
-next_block s r c n k h tips lt short b is_in = record {
+next_block r c n k h tips lt short b is_in = record {
   of_shard = of;
   filled = some (eqb (length (in_epoch items b (suc n))) 0) refl;
   short = short_texts items b (suc n) short;
   counted =
-      let o : Ordered items b = ordered k items b (h.shards k lt).each in
+      let o : Ordered items b = ordered k items b (h.each k lt) in
       let before : suc n - 1 ≡ n = omega arith in
-      let was : count_of c.tips b ≡ (cut items b n).count = ap (count_of_at b) tips ∙ ap count_or_none (before_part s r h n k lt b of) ∙ count_seen (cut (items_of r b) b n) ∙ ap (λ (j : ℕ). (cut (get_or r.shards j []) b n).count) of in
+      let was : count_of c.tips b ≡ (cut items b n).count = ap (count_of_at b) tips ∙ ap count_or_none (before_part r h n k lt b of) ∙ count_seen (cut (items_of r b) b n) ∙ ap (λ (j : ℕ). (cut (get_or r.shards j []) b n).count) of in
       omega (arith, was, count_law items b (suc n) o, ap (λ (m : ℕ). (cut items b m).count) before);
 }
   where
@@ -161,7 +161,7 @@ next_block s r c n k h tips lt short b is_in = record {
     of : shard_of b ≡ k
     of = elim (cases_eq (shard_of b) k) [
       | inl same ↦ same
-      | inr away ↦ absurd (false≢true (sym (member_nowhere k items b (suc n) (h.shards k lt).each away) ∙ is_in))
+      | inr away ↦ absurd (false≢true (sym (member_nowhere k items b (suc n) (h.each k lt) away) ∙ is_in))
     ]
 
     some : (q : Bool) → eqb (length (in_epoch items b (suc n))) 0 ≡ q → 1 ≤ length (entries (in_epoch items b (suc n)))
@@ -174,7 +174,7 @@ empty_sorted : Sorted {X = Tip} []
 unfolding IsStrictlySortedBy
 empty_sorted = tt
 
-fits : (s : Store) (r : Chronicle) (c : CloserState) (n k : ℕ) → Honest s r → IsCloserOf s r c → c.phase ≡ Half (suc n) k → k < 16 → AllByRecursion (λ (x : RowItem). length x.entry < 2 ^ 32) (rows_in (get_or r.shards k [])) → length (rows_in (get_or r.shards k [])) ≤ 2 ^ 27
+fits : (s : Store) (r : Chronicle) (c : CloserState) (n k : ℕ) → StandsRightly r → IsCloserOf s r c → c.phase ≡ Half (suc n) k → k < 16 → AllByRecursion (λ (x : RowItem). length x.entry < 2 ^ 32) (rows_in (get_or r.shards k [])) → length (rows_in (get_or r.shards k [])) ≤ 2 ^ 27
     → IsNextPart c (frozen_part k (get_or r.shards k []) (suc n))
 fits s r c n k h of half lt short few =
     let items : List Item = get_or r.shards k [] in
@@ -185,7 +185,7 @@ fits s r c n k h of half lt short few =
     let tips : c.tips ≡ put_all [] (flat_map tips_of (parts_up_to r.shards n ++ parts_below r.shards (suc n) k)) = of.tips ∙ ap (λ (m : ℕ). put_all [] (flat_map tips_of (parts_up_to r.shards m ++ c.parts))) (ap sealed_in half ∙ before) ∙ ap (λ (ps : List Part). put_all [] (flat_map tips_of (parts_up_to r.shards n ++ ps))) parts in
     let up : Sorted c.tips = subst Sorted (sym tips) (put_all_sorted [] (flat_map tips_of (parts_up_to r.shards n ++ parts_below r.shards (suc n) k)) empty_sorted) in
     let ascending : blocks_ascend part.blocks = ascend_of items (suc n) bs (rising_blocks (filter (is_of_epoch (suc n)) (rows_in items))) in
-    let blocks : AllByRecursion (IsNextBlock c.tips k) part.blocks = each_member (IsNextBlock c.tips k) items (suc n) bs bs (λ b m. m) (next_block s r c n k h tips lt short) in
+    let blocks : AllByRecursion (IsNextBlock c.tips k) part.blocks = each_member (IsNextBlock c.tips k) items (suc n) bs bs (λ b m. m) (next_block r c n k h tips lt short) in
     let counted = counted_blocks c.tips k part.blocks blocks in
     let sum = put_weight (is_of k) c.tips part.blocks up ascending counted.0 in
     let own = own_gain k part.blocks counted.1 in
@@ -194,13 +194,19 @@ fits s r c n k h of half lt short few =
     ∙ sym (put_all-append [] (flat_map tips_of (parts_up_to r.shards n ++ parts_below r.shards (suc n) k)) (tips_of part))
     ∙ ap (put_all []) (ap (λ (ts : List (ℕ × Tip)). flat_map tips_of (parts_up_to r.shards n ++ parts_below r.shards (suc n) k) ++ ts) (sym (append-nil (tips_of part))) ∙ sym (flat_map-append tips_of (parts_up_to r.shards n ++ parts_below r.shards (suc n) k) (part ∷ [])))
     ∙ ap (λ (ps : List Part). put_all [] (flat_map tips_of ps)) (append_assoc (parts_up_to r.shards n) (parts_below r.shards (suc n) k) (part ∷ [])) in
-    let bound : entries_of_shard (put_all c.tips (tips_of part)) k ≤ length (rows_in items) = few_of_shard r (suc n) k (put_all c.tips (tips_of part)) (put_all_sorted c.tips (tips_of part) up) (λ b here. ap (at_block b) next ∙ after_part s r h n k lt b here) in record {
+    let bound : entries_of_shard (put_all c.tips (tips_of part)) k ≤ length (rows_in items) = few_of_shard r (suc n) k (put_all c.tips (tips_of part)) (put_all_sorted c.tips (tips_of part) up) (λ b here. ap (at_block b) next ∙ after_part r h n k lt b here) in record {
       turn = half;
       ascending = ascending;
       blocks = blocks;
       few = omega (arith, sum, own, bound, few);
     }
 
-pub parts_fit : PartsFit
-parts_fit s r c zero k h of half lt pos short few = absurd (omega arith)
-parts_fit s r c (suc n) k h of half lt pos short few = fits s r c n k h of half lt short few
+pub any_parts_fit : PartsFit
+any_parts_fit s r c zero k h of half lt pos short few = absurd (omega arith)
+any_parts_fit s r c (suc n) k h of half lt pos short few = fits s r c n k h of half lt short few
+
+-- those of an honest life too
+pub parts_fit : (s : Store) (r : Chronicle) (c : CloserState) (e k : ℕ) → Honest s r → IsCloserOf s r c → c.phase ≡ Half e k → k < 16 → 1 ≤ e
+    → AllByRecursion (λ (x : RowItem). length x.entry < 2 ^ 32) (rows_in (get_or r.shards k [])) → length (rows_in (get_or r.shards k [])) ≤ 2 ^ 27
+    → IsNextPart c (frozen_part k (get_or r.shards k []) e)
+parts_fit s r c e k h = any_parts_fit s r c e k (rightly s r h)

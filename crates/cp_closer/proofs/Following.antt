@@ -1,5 +1,5 @@
 -- Each call of a closer follows the store's step.
-use Rattle.std.proofs.Common.{◌≡◌, ℕ, suc, ◌+◌, ◌-◌, List, [], ◌∷◌, ◌++◌, length, flat_map, get_or, Bool, cond, eqb, Result, Ok, Err, refl, sym, ap, ◌∙◌, inl, inr, arith}
+use Rattle.std.proofs.Common.{◌≡◌, ℕ, suc, ◌+◌, ◌-◌, ◌≤◌, List, [], ◌∷◌, ◌++◌, length, flat_map, get_or, Bool, cond, eqb, Result, Ok, Err, refl, sym, ap, ◌∙◌, inl, inr, arith}
 use Rattle.std.proofs.lemmas.Bool.{cases_eq, eq-eqb, ne_eqb}
 use Rattle.std.proofs.lemmas.List.{append-nil, append_assoc}
 use Rattle.std.proofs.lemmas.Grind.{flat_map-append}
@@ -7,20 +7,22 @@ use Rattle.cp_tips.specs.declared.tip.Tip.{Tip}
 use Rattle.cp_core.specs.Store.{Store}
 use Rattle.cp_core.specs.Machine.{after_freeze}
 use Rattle.cp_core.specs.Sealing.{seal_at}
+use Rattle.cp_core.specs.Honest.{Honest}
 use Rattle.cp_core.specs.Frozen.{frozen_part}
 use Rattle.cp_core.specs.declared.chronicle.Chronicle.{Chronicle}
 use Rattle.cp_core.specs.declared.close_refusal.CloseRefusal.{CloseRefusal}
 use Rattle.cp_core.specs.declared.close_refusal.CloseRefusal.TheVariants.{WrongEpoch, ClosingsOver}
 use Rattle.cp_core.specs.declared.phase.Phase.{Phase}
-use Rattle.cp_core.specs.declared.phase.Phase.TheVariants.{Running}
+use Rattle.cp_core.specs.declared.phase.Phase.TheVariants.{Running, Full}
 use Rattle.cp_core.specs.Frozen.{Part}
 use Rattle.cp_core.specs.declared.seal_item.SealItem.{SealItem}
 use Rattle.cp_closer.specs.Taken.{put_all, tips_of}
-use Rattle.cp_closer.specs.Closer.{CloserState, epoch_of, begin_in, begun, begin_answer, after_begin, sealed_now, seal_item}
+use Rattle.cp_closer.specs.Closer.{CloserState, epoch_of, begin_in, begun, begin_answer, after_begin, sealed_now, seal_item, after_seal}
 use Rattle.cp_closer.specs.Kept.{taken_in}
 use Rattle.cp_closer.specs.Laws.{parts_below, parts_up_to, sealed_in, IsCloserOf, OpensAlike, BeginsAlike, TakesAlike, SealsAlike, PublishesAlike, StaysAlike}
 use Rattle.cp_closer.proofs.Puts.{put_all-append}
-use Rattle.cp_closer.proofs.LifeSeals.{full_tips, seals_the_life}
+use Rattle.cp_closer.proofs.LifeSeals.{full_tips, seals_any_life}
+use Rattle.cp_closer.proofs.Lives.{rightly}
 
 pub opens_alike : OpensAlike
 opens_alike s r none = record { store = refl; leaves = refl; closings = refl; seals = sym none; parts = refl; tips = refl }
@@ -76,10 +78,10 @@ takes_alike s r c e k of half = record {
     next : (phase : Phase) → (epoch_of phase ≡ e) × (taken_in phase ≡ suc k) × (sealed_in phase ≡ e - 1) → parts_below r.shards e (suc k) ≡ parts_below r.shards (epoch_of phase) (taken_in phase)
     next phase (epoch, taken, sealed) = ap (λ (n : ℕ). parts_below r.shards n (suc k)) (sym epoch) ∙ ap (parts_below r.shards (epoch_of phase)) (sym taken)
 
-pub seals_alike : SealsAlike
-seals_alike s r c e h of full pos =
+pub seals_any_alike : SealsAlike
+seals_any_alike s r c e h of full pos =
     let epoch : epoch_of c.phase ≡ e = ap epoch_of full in
-    let item : seal_item e s.families (sealed_now c s.families) ≡ seal_at s r e = (seals_the_life s r c e h of full pos).0 in
+    let item : seal_item e s.families (sealed_now c s.families) ≡ seal_at s r e = (seals_any_life s r c e h of full pos).0 in
     let tips = full_tips s r c e of full pos in record {
       store = of.store;
       leaves = of.leaves;
@@ -88,6 +90,11 @@ seals_alike s r c e h of full pos =
       parts = refl;
       tips = tips ∙ ap (λ (n : ℕ). put_all [] (flat_map tips_of (parts_up_to r.shards n))) (sym epoch) ∙ ap (λ (ps : List Part). put_all [] (flat_map tips_of ps)) (sym (append-nil (parts_up_to r.shards (epoch_of c.phase))));
     }
+
+-- of an honest life too
+pub seals_alike : (s : Store) (r : Chronicle) (c : CloserState) (e : ℕ) → Honest s r → IsCloserOf s r c → c.phase ≡ Full e → 1 ≤ e
+    → IsCloserOf s (record r { seals = r.seals ++ seal_at s r e ∷ [] }) (after_seal c s.families)
+seals_alike s r c e h = seals_any_alike s r c e (rightly s r h)
 
 pub publishes_alike : PublishesAlike
 publishes_alike s r c e of sealed =

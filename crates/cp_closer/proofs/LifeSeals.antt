@@ -20,7 +20,7 @@ use Rattle.cp_chain.specs.Log.{LogPart, log_text}
 use Rattle.cp_core.specs.Store.{Store}
 use Rattle.cp_core.specs.Life.{RowItem, rows_in, in_epoch, up_to, entries, tip_after, cut, items_of, shard_of}
 use Rattle.cp_core.specs.Sealing.{blocks_up_to, table_at, link_after, closing_at, seal_at}
-use Rattle.cp_core.specs.Honest.{Honest, counted}
+use Rattle.cp_core.specs.Honest.{Honest}
 use Rattle.cp_core.specs.Frozen.{tip_from, blocks_in, frozen_block, frozen_part}
 use Rattle.cp_core.specs.declared.chronicle.Chronicle.{Chronicle}
 use Rattle.cp_core.specs.declared.item.Item.{Item}
@@ -30,15 +30,14 @@ use Rattle.cp_core.specs.declared.seal_item.SealItem.{SealItem}
 use Rattle.cp_core.specs.Frozen.{Gained}
 use Rattle.cp_core.specs.Frozen.{Part}
 use Rattle.cp_core.proofs.EpochLemmas.{Ordered, ordered, count_after, count_law}
-use Rattle.cp_core.proofs.TableLemmas.{Above, Rising, member, rising_blocks, found_row}
-use Rattle.cp_core.proofs.SealLemmas.{table_is}
+use Rattle.cp_core.proofs.TableLemmas.{Above, Rising, member, rising_blocks}
 use Rattle.cp_closer.specs.Taken.{put_all, tips_of, texts_of}
 use Rattle.cp_closer.specs.Closer.{CloserState, epoch_of, segments, log_parts, closing_now, sealed_now, seal_item}
 use Rattle.cp_closer.specs.Kept.{taken_in}
-use Rattle.cp_closer.specs.Laws.{parts_below, parts_up_to, sealed_in, IsCloserOf, log_at, SealsTheLife}
+use Rattle.cp_closer.specs.Laws.{parts_below, parts_up_to, sealed_in, IsCloserOf, StandsRightly, log_at, SealsTheLife}
 use Rattle.cp_closer.proofs.Puts.{put_all-append}
 use Rattle.cp_closer.proofs.Inserts.{Sorted, at_block, at_self, not_at, cmp_less, put_all_sorted, same_values, or_else, or_else_assoc, else_none, last_at, put_all_at}
-use Rattle.cp_closer.proofs.Lives.{member_now, member_nowhere, member_everywhere}
+use Rattle.cp_closer.proofs.Lives.{rightly, member_now, member_nowhere, member_everywhere, member_so_far}
 
 -- ---- values of ascending blocks
 
@@ -87,14 +86,14 @@ given g r n b = cond (not (eqb (length (in_epoch (items_of r b) b n)) 0)) (Some 
 abbrev pub Gives : {X : Type 0} → (Part → List (ℕ × X)) → (List Item → ℕ → X) → ℕ → Type 0
 Gives f g n = (k : ℕ) (items : List Item) → f (frozen_part k items n) ≡ valued (g items) (blocks_in (rows_in items) n)
 
-pub below : {X : Type 0} (f : Part → List (ℕ × X)) (g : List Item → ℕ → X) (n : ℕ) → Gives f g n → (s : Store) (r : Chronicle) → Honest s r → (b k : ℕ) → k ≤ 16 → last_at b (flat_map f (parts_below r.shards n k)) ≡ cond (ltb (shard_of b) k) (given g r n b) None
+pub below : {X : Type 0} (f : Part → List (ℕ × X)) (g : List Item → ℕ → X) (n : ℕ) → Gives f g n → (r : Chronicle) → StandsRightly r → (b k : ℕ) → k ≤ 16 → last_at b (flat_map f (parts_below r.shards n k)) ≡ cond (ltb (shard_of b) k) (given g r n b) None
 unfolding last_at or_else
-below f g n gives s r h b zero le = rw (le-ltb (shard_of b) 0 (omega arith)) refl
-below {X = X} f g n gives s r h b (suc k) le =
+below f g n gives r h b zero le = rw (le-ltb (shard_of b) 0 (omega arith)) refl
+below {X = X} f g n gives r h b (suc k) le =
     ap (last_at b) (flat_map-append f (parts_below r.shards n k) (frozen_part k items n ∷ []) ∙ ap (λ (xs : List (ℕ × X)). flat_map f (parts_below r.shards n k) ++ xs) (append-nil (f (frozen_part k items n)) ∙ gives k items))
     ∙ last_at-append b (flat_map f (parts_below r.shards n k)) (valued (g items) (blocks_in (rows_in items) n))
     ∙ ap (λ (o : Option X). or_else o (last_at b (flat_map f (parts_below r.shards n k)))) (valued_last (g items) b (blocks_in (rows_in items) n))
-    ∙ ap (or_else (cond (member b (blocks_in (rows_in items) n)) (Some (g items b)) None)) (below f g n gives s r h b k (omega (arith, le)))
+    ∙ ap (or_else (cond (member b (blocks_in (rows_in items) n)) (Some (g items b)) None)) (below f g n gives r h b k (omega (arith, le)))
     ∙ step
   where
     items : List Item
@@ -112,11 +111,11 @@ below {X = X} f g n gives s r h b (suc k) le =
           else_none (cond (member b (blocks_in (rows_in items) n)) (Some (g items b)) None)
           ∙ ap (λ (t : Bool). cond t (Some (g items b)) None) (member_now items b n)
           ∙ ap (λ (j : ℕ). cond (not (eqb (length (in_epoch (get_or r.shards j []) b n)) 0)) (Some (g (get_or r.shards j []) b)) None) (sym here))
-      | inr away ↦ rw (member_nowhere k items b n (h.shards k (omega (arith, le))).each away) (further away)
+      | inr away ↦ rw (member_nowhere k items b n (h.each k (omega (arith, le))) away) (further away)
     ]
 
-whole : {X : Type 0} (f : Part → List (ℕ × X)) (g : List Item → ℕ → X) (n : ℕ) → Gives f g n → (s : Store) (r : Chronicle) → Honest s r → (b : ℕ) → last_at b (flat_map f (parts_below r.shards n 16)) ≡ given g r n b
-whole f g n gives s r h b = below f g n gives s r h b 16 (omega arith) ∙ rw (lt-ltb (shard_of b) 16 (omega arith)) refl
+whole : {X : Type 0} (f : Part → List (ℕ × X)) (g : List Item → ℕ → X) (n : ℕ) → Gives f g n → (r : Chronicle) → StandsRightly r → (b : ℕ) → last_at b (flat_map f (parts_below r.shards n 16)) ≡ given g r n b
+whole f g n gives r h b = below f g n gives r h b 16 (omega arith) ∙ rw (lt-ltb (shard_of b) 16 (omega arith)) refl
 
 map-map : {A B C : Type 0} (f : B → C) (g : A → B) (xs : List A) → map f (map g xs) ≡ map (λ x. f (g x)) xs
 map-map f g [] = refl
@@ -162,50 +161,47 @@ tip_of_epoch r b n o = elim (cases_eq (length (in_epoch items b (suc n))) 0) [
     counts : (length (in_epoch items b (suc n)) ≡ 0 → ⊥) → (cut items b (suc n)).count ≡ 0 → ⊥
     counts some none = some (omega (arith, none, count_law items b (suc n) o, length-map (in_epoch items b (suc n)) (λ (x : RowItem). x.entry)))
 
-pub tip_at : (s : Store) (r : Chronicle) → Honest s r → (b n : ℕ) → at_block b (tips_up_to r n) ≡ seen (cut (items_of r b) b n)
-tip_at s r h b zero =
-    let o : Ordered (items_of r b) b = ordered (shard_of b) (items_of r b) b (h.shards (shard_of b) (omega arith)).each in
+pub tip_at : (r : Chronicle) → StandsRightly r → (b n : ℕ) → at_block b (tips_up_to r n) ≡ seen (cut (items_of r b) b n)
+tip_at r h b zero =
+    let o : Ordered (items_of r b) b = ordered (shard_of b) (items_of r b) b (h.each (shard_of b) (omega arith)) in
     sym (ap (λ (rs : List RowItem). seen (tip_after b (entries rs))) o.nothing ∙ nothing b)
   where
     nothing : (b : ℕ) → seen (tip_after b []) ≡ None
     nothing b = rw (count_after b []) refl
-tip_at s r h b (suc n) =
-    let o : Ordered (items_of r b) b = ordered (shard_of b) (items_of r b) b (h.shards (shard_of b) (omega arith)).each in
+tip_at r h b (suc n) =
+    let o : Ordered (items_of r b) b = ordered (shard_of b) (items_of r b) b (h.each (shard_of b) (omega arith)) in
     ap (λ (xs : List (ℕ × Tip)). at_block b (put_all [] xs)) (flat_map-append tips_of (parts_up_to r.shards n) (parts_below r.shards (suc n) 16))
     ∙ ap (at_block b) (put_all-append [] (flat_map tips_of (parts_up_to r.shards n)) (flat_map tips_of (parts_below r.shards (suc n) 16)))
     ∙ put_all_at (tips_up_to r n) (flat_map tips_of (parts_below r.shards (suc n) 16)) b
-    ∙ ap (λ (x : Option Tip). or_else x (at_block b (tips_up_to r n))) (whole tips_of (tip_then (suc n)) (suc n) (gives_tips (suc n)) s r h b)
-    ∙ ap (or_else (given (tip_then (suc n)) r (suc n) b)) (tip_at s r h b n)
+    ∙ ap (λ (x : Option Tip). or_else x (at_block b (tips_up_to r n))) (whole tips_of (tip_then (suc n)) (suc n) (gives_tips (suc n)) r h b)
+    ∙ ap (or_else (given (tip_then (suc n)) r (suc n) b)) (tip_at r h b n)
     ∙ tip_of_epoch r b n o
 
 empty_sorted : (X : Type 0) → Sorted {X = X} []
 unfolding IsStrictlySortedBy
 empty_sorted X = tt
 
-seen_where : (m : Bool) (t : spec.Tip) → cond m (Some t) None ≡ counted t → cond m (Some (tip_from t)) None ≡ seen t
-seen_where m t e = pick m (eqb t.count 0) e
+seen_where : (m : Bool) (t : spec.Tip) → m ≡ not (eqb t.count 0) → cond m (Some (tip_from t)) None ≡ seen t
+seen_where m t e = ap (λ (u : Bool). cond u (Some (tip_from t)) None) e ∙ pick (eqb t.count 0)
   where
-    pick : (m q : Bool) → cond m (Some t) None ≡ cond q None (Some t) → cond m (Some (tip_from t)) None ≡ cond q None (Some (tip_from t))
-    pick true true e = absurd (cc)
-    pick true false e = refl
-    pick false true e = refl
-    pick false false e = absurd (cc)
+    pick : (q : Bool) → cond (not q) (Some (tip_from t)) None ≡ cond q None (Some (tip_from t))
+    pick true = refl
+    pick false = refl
 
-pub tips_are : (s : Store) (r : Chronicle) → Honest s r → (n : ℕ) → tips_up_to r n ≡ valued (λ b. tip_from (cut (items_of r b) b n)) (blocks_up_to r n)
-unfolding table_at
-tips_are s r h n = same_values _ _ (put_all_sorted [] (flat_map tips_of (parts_up_to r.shards n)) (empty_sorted Tip)) (valued_sorted _ (blocks_up_to r n) (rising_blocks _)) (λ b.
-    tip_at s r h b n
-    ∙ sym (seen_where (member b (blocks_up_to r n)) (cut (items_of r b) b n) (sym (found_row (λ c. cut (items_of r c) c n) b (blocks_up_to r n)) ∙ (table_is s r h n).each b))
+pub tips_are : (r : Chronicle) → StandsRightly r → (n : ℕ) → tips_up_to r n ≡ valued (λ b. tip_from (cut (items_of r b) b n)) (blocks_up_to r n)
+tips_are r h n = same_values _ _ (put_all_sorted [] (flat_map tips_of (parts_up_to r.shards n)) (empty_sorted Tip)) (valued_sorted _ (blocks_up_to r n) (rising_blocks _)) (λ b.
+    tip_at r h b n
+    ∙ sym (seen_where (member b (blocks_up_to r n)) (cut (items_of r b) b n) (member_so_far r h b n))
     ∙ sym (valued_at (λ c. tip_from (cut (items_of r c) c n)) b (blocks_up_to r n)))
 
-pub rows_are : (s : Store) (r : Chronicle) → Honest s r → (n : ℕ) → rows_of (tips_up_to r n) ≡ table_at r n
+pub rows_are : (r : Chronicle) → StandsRightly r → (n : ℕ) → rows_of (tips_up_to r n) ≡ table_at r n
 unfolding table_at
-rows_are s r h n = ap rows_of (tips_are s r h n) ∙ map-map (λ (e : ℕ × Tip). record { block = e.0; tip = record { count = e.1.count; version = e.1.version; content = e.1.content; head = e.1.head } }) (λ b. (b, tip_from (cut (items_of r b) b n))) (blocks_up_to r n)
+rows_are r h n = ap rows_of (tips_are r h n) ∙ map-map (λ (e : ℕ × Tip). record { block = e.0; tip = record { count = e.1.count; version = e.1.version; content = e.1.content; head = e.1.head } }) (λ b. (b, tip_from (cut (items_of r b) b n))) (blocks_up_to r n)
 
 -- ---- the log
 
-pub log_parts_are : (s : Store) (r : Chronicle) → Honest s r → (n : ℕ) → log_parts (parts_below r.shards n 16) ≡ (log_at r n).parts
-log_parts_are s r h n =
+pub log_parts_are : (r : Chronicle) → StandsRightly r → (n : ℕ) → log_parts (parts_below r.shards n 16) ≡ (log_at r n).parts
+log_parts_are r h n =
     let texts : put_all [] (flat_map texts_of (parts_below r.shards n 16)) ≡ valued (λ b. entries (in_epoch (items_of r b) b n)) (blocks_in (flat_map rows_in r.shards) n) =
     same_values _ _ (put_all_sorted [] (flat_map texts_of (parts_below r.shards n 16)) (empty_sorted (List (List ℕ)))) (valued_sorted _ (blocks_in (flat_map rows_in r.shards) n) (rising_blocks _)) (each n) in
     ap segments texts ∙ map-map (λ (e : ℕ × List (List ℕ)). record { block = e.0; texts = e.1 }) (λ b. (b, entries (in_epoch (items_of r b) b n))) (blocks_in (flat_map rows_in r.shards) n)
@@ -214,8 +210,8 @@ log_parts_are s r h n =
     each n b =
         put_all_at [] (flat_map texts_of (parts_below r.shards n 16)) b
         ∙ else_none (last_at b (flat_map texts_of (parts_below r.shards n 16)))
-        ∙ whole texts_of (texts_then n) n (gives_texts n) s r h b
-        ∙ ap (λ (t : Bool). cond t (Some (entries (in_epoch (items_of r b) b n))) None) (sym (member_everywhere s r h b n))
+        ∙ whole texts_of (texts_then n) n (gives_texts n) r h b
+        ∙ ap (λ (t : Bool). cond t (Some (entries (in_epoch (items_of r b) b n))) None) (sym (member_everywhere r h b n))
         ∙ sym (valued_at (λ c. entries (in_epoch (items_of r c) c n)) b (blocks_in (flat_map rows_in r.shards) n))
 
 -- ---- the seal
@@ -262,17 +258,22 @@ full_tips s r c e of full pos =
     ∙ ap (λ (ps : List Part). put_all [] (flat_map tips_of (parts_up_to r.shards (e - 1) ++ ps))) (full_parts s r c e of full)
     ∙ ap (λ (ps : List Part). put_all [] (flat_map tips_of ps)) (last_epoch r e pos)
 
-pub seals_the_life : SealsTheLife
-seals_the_life s r c e h of full pos =
+pub seals_any_life : SealsTheLife
+seals_any_life s r c e h of full pos =
     let epoch : epoch_of c.phase ≡ e = ap epoch_of full in
-    let rows : rows_of c.tips ≡ table_at r e = ap rows_of (full_tips s r c e of full pos) ∙ rows_are s r h e in
+    let rows : rows_of c.tips ≡ table_at r e = ap rows_of (full_tips s r c e of full pos) ∙ rows_are r h e in
     let link : link_after c.seals ≡ link_after r.seals = ap link_after of.seals in
     let store : c.store ≡ s.id = of.store in
     let same : closing c.store (epoch_of c.phase) (link_after c.seals) s.families (rows_of c.tips) ≡ closing s.id e (link_after r.seals) s.families (table_at r e) = cc in
     let text : closing_now c s.families ≡ closing_at s r e = closing_is c s.families ∙ same ∙ closing_of_life s r e in
     let leaf : c.leaves - c.closings + (epoch_of c.phase - 1) ≡ s.attestations + (e - 1) = omega (arith, epoch, of.leaves, of.closings) in
     let seal : item e (c.leaves - c.closings + (epoch_of c.phase - 1)) (closing_now c s.families) (rows_of c.tips) s.families ≡ item e (s.attestations + (e - 1)) (closing_at s r e) (table_at r e) s.families = cc in
-    let parts : log_parts c.parts ≡ (log_at r e).parts = ap log_parts (full_parts s r c e of full) ∙ log_parts_are s r h e in (
+    let parts : log_parts c.parts ≡ (log_at r e).parts = ap log_parts (full_parts s r c e of full) ∙ log_parts_are r h e in (
       item_now c e s.families ∙ seal ∙ item_of_life s r e,
       ap (λ (n : ℕ). log_text (record { epoch = n; parts = log_parts c.parts })) epoch ∙ ap (λ (ps : List LogPart). log_text (record { epoch = e; parts = ps })) parts,
     )
+
+-- of an honest one too
+pub seals_the_life : (s : Store) (r : Chronicle) (c : CloserState) (e : ℕ) → Honest s r → IsCloserOf s r c → c.phase ≡ Full e → 1 ≤ e
+    → (seal_item e s.families (sealed_now c s.families) ≡ seal_at s r e) × ((sealed_now c s.families).log ≡ log_text (log_at r e))
+seals_the_life s r c e h = seals_any_life s r c e (rightly s r h)

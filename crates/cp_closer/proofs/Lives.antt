@@ -2,21 +2,23 @@
 use Rattle.std.proofs.Common.{◌≡◌, ℕ, zero, suc, ◌<◌, Bool, true, false, cond, not, eqb, List, [], ◌∷◌, ◌++◌, length, flat_map, get_or, refl, sym, ap, ◌∙◌, arith}
 use Rattle.std.specs.Prelude.{filter}
 use Rattle.std.specs.List.{list_any}
-use Rattle.std.proofs.lemmas.List.{append-nil}
+use Rattle.std.proofs.lemmas.List.{append-nil, length-map}
 use Rattle.std.proofs.lemmas.List.Elements.{filter-append}
 use Rattle.std.proofs.lemmas.Bool.{ne_eqb}
 use Rattle.cp_chain.specs.Each.{Each}
 use Rattle.cp_chain.proofs.Each.{each_front, each_last, snoc}
-use Rattle.cp_core.specs.Life.{RowItem, row_item, rows_in, rows_of, in_epoch, is_of_block, is_of_epoch, items_of, shard_of}
+use Rattle.cp_core.specs.Life.{RowItem, row_item, rows_in, rows_of, in_epoch, up_to, entries, cut, is_of_block, is_of_epoch, is_up_to_epoch, items_of, shard_of}
 use Rattle.cp_core.specs.Honest.{Honest, IsItemOf, IsRowOf}
 use Rattle.cp_core.specs.Store.{Store}
 use Rattle.cp_core.specs.Frozen.{blocks_in}
+use Rattle.cp_core.specs.Sealing.{blocks_up_to}
 use Rattle.cp_core.specs.declared.chronicle.Chronicle.{Chronicle}
 use Rattle.cp_core.specs.declared.item.Item.{Item}
 use Rattle.cp_core.specs.declared.item.Item.TheVariants.{Frozen, Row}
-use Rattle.cp_core.proofs.EpochLemmas.{row_other, freeze_rows}
+use Rattle.cp_core.proofs.EpochLemmas.{row_other, freeze_rows, count_after}
 use Rattle.cp_core.proofs.RowLemmas.{spells_reads}
 use Rattle.cp_core.proofs.TableLemmas.{member, member_blocks}
+use Rattle.cp_closer.specs.Laws.{StandsRightly}
 
 none_at_first : (b : ℕ) → rows_of [] b ≡ []
 unfolding rows_of
@@ -55,9 +57,13 @@ any_left p q (r ∷ rs) = go (p r) (q r) refl refl (any_left p q rs)
     go false true e f h = rw e h
     go false false e f h = h
 
-rows_everywhere : (r : Chronicle) → length r.shards ≡ 16 → ((k : ℕ) → k < 16 → Each (IsItemOf k) (get_or r.shards k [])) → (b : ℕ) → filter (is_of_block b) (flat_map rows_in r.shards) ≡ rows_of (items_of r b) b
+-- the items of an honest life stand rightly
+pub rightly : (s : Store) (r : Chronicle) → Honest s r → StandsRightly r
+rightly s r h = record { sixteen = h.sixteen; each = λ k lt. (h.shards k lt).each }
+
+rows_everywhere : (r : Chronicle) → StandsRightly r → (b : ℕ) → filter (is_of_block b) (flat_map rows_in r.shards) ≡ rows_of (items_of r b) b
 unfolding rows_of
-rows_everywhere r sixteen each b = only_one (is_of_block b) r.shards (shard_of b) (λ k lt ne. none_elsewhere k (get_or r.shards k []) b (each k (omega (arith, lt, sixteen))) ne)
+rows_everywhere r h b = only_one (is_of_block b) r.shards (shard_of b) (λ k lt ne. none_elsewhere k (get_or r.shards k []) b (h.each k (omega (arith, lt, h.sixteen))) ne)
 
 -- a block is among those of an epoch just where it has an entry in it
 pub member_in : (rows : List RowItem) (b n : ℕ) → member b (blocks_in rows n) ≡ not (eqb (length (filter (is_of_epoch n) (filter (is_of_block b) rows))) 0)
@@ -71,6 +77,16 @@ pub member_nowhere : (k : ℕ) (items : List Item) (b n : ℕ) → Each (IsItemO
 unfolding in_epoch
 member_nowhere k items b n each ne = member_now items b n ∙ ap (λ (rs : List RowItem). not (eqb (length (filter (is_of_epoch n) rs)) 0)) (none_elsewhere k items b each ne)
 
-pub member_everywhere : (s : Store) (r : Chronicle) → Honest s r → (b n : ℕ) → member b (blocks_in (flat_map rows_in r.shards) n) ≡ not (eqb (length (in_epoch (items_of r b) b n)) 0)
+pub member_everywhere : (r : Chronicle) → StandsRightly r → (b n : ℕ) → member b (blocks_in (flat_map rows_in r.shards) n) ≡ not (eqb (length (in_epoch (items_of r b) b n)) 0)
 unfolding in_epoch
-member_everywhere s r h b n = member_in (flat_map rows_in r.shards) b n ∙ ap (λ (rs : List RowItem). not (eqb (length (filter (is_of_epoch n) rs)) 0)) (rows_everywhere r h.sixteen (λ k lt. (h.shards k lt).each) b)
+member_everywhere r h b n = member_in (flat_map rows_in r.shards) b n ∙ ap (λ (rs : List RowItem). not (eqb (length (filter (is_of_epoch n) rs)) 0)) (rows_everywhere r h b)
+
+count_everywhere : (r : Chronicle) → StandsRightly r → (b n : ℕ) → (cut (items_of r b) b n).count ≡ length (filter (is_up_to_epoch n) (filter (is_of_block b) (flat_map rows_in r.shards)))
+unfolding up_to
+count_everywhere r h b n = count_after b (entries (up_to (items_of r b) b n)) ∙ length-map (up_to (items_of r b) b n) (λ (x : RowItem). x.entry) ∙ ap (λ (l : List RowItem). length (filter (is_up_to_epoch n) l)) (sym (rows_everywhere r h b))
+
+-- a block has a row in the table of an epoch just where its tip counts then
+pub member_so_far : (r : Chronicle) → StandsRightly r → (b n : ℕ) → member b (blocks_up_to r n) ≡ not (eqb (cut (items_of r b) b n).count 0)
+member_so_far r h b n =
+    member_blocks b (filter (is_up_to_epoch n) (flat_map rows_in r.shards)) ∙ any_left (is_of_block b) (is_up_to_epoch n) (flat_map rows_in r.shards)
+    ∙ ap (λ (m : ℕ). not (eqb m 0)) (sym (count_everywhere r h b n))

@@ -1,11 +1,12 @@
 -- The laws of the closer: the closing of a store is its life's (this project's own).
 use Rattle.std.specs.Prelude.{ℕ, zero, suc, ◌+◌, ◌-◌, ◌^◌, ◌<◌, ◌≤◌, ◌≡◌, List, [], ◌∷◌, ◌++◌, length, map, flat_map, get_or, Ok, Err, ◌==◌, if◌then◌else◌}
 use Rattle.std.specs.List.{AllByRecursion}
+use Rattle.cp_chain.specs.Each.{Each}
 use Rattle.cp_chain.specs.Log.{Log, log_text}
 use Rattle.cp_core.specs.Store.{Store}
 use Rattle.cp_core.specs.Life.{rows_in, in_epoch, entries, items_of}
 use Rattle.cp_core.specs.Sealing.{seal_at}
-use Rattle.cp_core.specs.Honest.{Honest}
+use Rattle.cp_core.specs.Honest.{IsItemOf}
 use Rattle.cp_core.specs.Frozen.{blocks_in, frozen_part}
 use Rattle.cp_core.specs.declared.chronicle.Chronicle.{Chronicle}
 use Rattle.cp_core.specs.declared.item.Item.{Item}
@@ -48,14 +49,19 @@ pub record IsCloserOf (s : Store) (r : Chronicle) (c : CloserState) : Type 0 whe
 
 -- ---- what it seals
 
+-- There are sixteen shards, and each item of each stands rightly in it. The leaves of the rows may be any.
+pub record StandsRightly (r : Chronicle) : Type 0 where
+  pub sixteen : length r.shards ≡ 16
+  pub each : (k : ℕ) → k < 16 → Each (IsItemOf k) (get_or r.shards k [])
+
 -- the log of an epoch: the entries of each block that has some in it, ascending by block
 abbrev pub log_at : Chronicle → ℕ → Log
 log_at r n = record { epoch = n; parts = map (λ b. record { block = b; texts = entries (in_epoch (items_of r b) b n) }) (blocks_in (flat_map rows_in r.shards) n) }
 
--- Of an honest life the closer makes the life's own seal: its closing has the tips of all blocks with an
+-- Of a life that stands rightly the closer makes the life's own seal: its closing has the tips of all blocks with an
 -- entry up to the epoch's end, also those without one in it. Its log has the epoch's entries.
 abbrev pub SealsTheLife : Type 0
-SealsTheLife = (s : Store) (r : Chronicle) (c : CloserState) (e : ℕ) → Honest s r → IsCloserOf s r c → c.phase ≡ Full e → 1 ≤ e
+SealsTheLife = (s : Store) (r : Chronicle) (c : CloserState) (e : ℕ) → StandsRightly r → IsCloserOf s r c → c.phase ≡ Full e → 1 ≤ e
     → (seal_item e s.families (sealed_now c s.families) ≡ seal_at s r e) × ((sealed_now c s.families).log ≡ log_text (log_at r e))
 
 -- ---- each call follows the store's step
@@ -73,7 +79,7 @@ abbrev pub TakesAlike : Type 0
 TakesAlike = (s : Store) (r : Chronicle) (c : CloserState) (e k : ℕ) → IsCloserOf s r c → c.phase ≡ Half e k → IsCloserOf s r (after_take c (frozen_part k (get_or r.shards k []) e))
 
 abbrev pub SealsAlike : Type 0
-SealsAlike = (s : Store) (r : Chronicle) (c : CloserState) (e : ℕ) → Honest s r → IsCloserOf s r c → c.phase ≡ Full e → 1 ≤ e
+SealsAlike = (s : Store) (r : Chronicle) (c : CloserState) (e : ℕ) → StandsRightly r → IsCloserOf s r c → c.phase ≡ Full e → 1 ≤ e
     → IsCloserOf s (record r { seals = r.seals ++ seal_at s r e ∷ [] }) (after_seal c s.families)
 
 abbrev pub PublishesAlike : Type 0
@@ -89,6 +95,6 @@ StaysAlike = (s : Store) (r more : Chronicle) (c : CloserState) → IsCloserOf s
 -- A part that a shard of the life hands over is one that can be taken: its texts have lengths of four
 -- bytes, and the shard has at most 2^27 rows.
 abbrev pub PartsFit : Type 0
-PartsFit = (s : Store) (r : Chronicle) (c : CloserState) (e k : ℕ) → Honest s r → IsCloserOf s r c → c.phase ≡ Half e k → k < 16 → 1 ≤ e
+PartsFit = (s : Store) (r : Chronicle) (c : CloserState) (e k : ℕ) → StandsRightly r → IsCloserOf s r c → c.phase ≡ Half e k → k < 16 → 1 ≤ e
     → AllByRecursion (λ row. length row.entry < 2 ^ 32) (rows_in (get_or r.shards k [])) → length (rows_in (get_or r.shards k [])) ≤ 2 ^ 27
     → IsNextPart c (frozen_part k (get_or r.shards k []) e)

@@ -1,8 +1,8 @@
 //! The laws of the closer.
 ghost use Rattle.cp_closer.specs.Laws.{BeginsAlike, OpensAlike, PartsFit, PublishesAlike, SealsAlike, SealsTheLife, StaysAlike, TakesAlike};
 
-/// Where the parts that were taken are those of an honest store's life, the seal is the life's seal, and
-/// the log has the life's entries of the epoch.
+/// Where the parts that were taken are those of a life whose items stand rightly, the seal is the life's
+/// seal, and the log has the life's entries of the epoch.
 pub fn seals_the_life()
     ensures { SealsTheLife }
 {}

@@ -31,6 +31,10 @@ impl Counter {
 }
 
 impl LeafSource for Counter {
+    type Fixed = ();
+
+    ghost fixed = { λ _. tt };
+
     ghost given = { numbers_below };
 
     ghost found = { λ n. n };
@@ -46,6 +50,7 @@ impl LeafSource for Counter {
             (λ _. numbers_below self.new ≡ numbers_below self.old) }
         ensures over { IfErr result (λ over. (over.limit ≡ limit) × (limit ≤ over.drawn) × (self.new ≡ over.drawn)) }
         ensures found { self.old ≤ self.new }
+        ensures fixed { tt {0} ≡ tt {0} }
     {
         let leaf = self.next;
         if leaf >= limit {

@@ -6,6 +6,12 @@ use crate::LeavesOver;
 
 /// Where the numbers of leaves come from, each once. A source may wait.
 pub trait LeafSource {
+    /// What a source is made with and no draw changes, as the counter that it draws from.
+    type Fixed;
+
+    /// That of this source.
+    ghost fixed: { Self → Self.Fixed };
+
     /// The numbers that it gave, in order.
     ghost given: { Self → List ℕ };
 
@@ -25,5 +31,6 @@ pub trait LeafSource {
             (λ leaf. Self.given self.new ≡ Self.given self.old ++ leaf ∷ [])
             (λ _. Self.given self.new ≡ Self.given self.old) }
         ensures over { IfErr result (λ over. (over.limit ≡ limit) × (limit ≤ over.drawn) × (Self.found self.new ≡ over.drawn)) }
-        ensures found { Self.found self.old ≤ Self.found self.new };
+        ensures found { Self.found self.old ≤ Self.found self.new }
+        ensures fixed { Self.fixed self.new ≡ Self.fixed self.old };
 }

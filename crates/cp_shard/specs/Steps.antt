@@ -1,5 +1,5 @@
 -- What a call does to a shard, by the shard's step (this project's own).
-use Rattle.std.specs.Prelude.{ℕ, ◌≡◌, ◌≤◌, not, List, [], ◌∷◌, Option, Some, None, Result, Ok, Err, ◌==◌, if◌then◌else◌}
+use Rattle.std.specs.Prelude.{ℕ, ◌≡◌, ◌<◌, ◌≤◌, not, List, [], ◌∷◌, Option, Some, None, Result, Ok, Err, ◌==◌, if◌then◌else◌}
 use Rattle.cp_statements.specs.Entry.{entry_of}
 use Rattle.cp_families.specs.Checking.{SignedPut}
 use Rattle.cp_core.specs.Booking.{Booking}
@@ -71,6 +71,11 @@ added (New answer row) = row_item row ∷ []
 abbrev pub drawn : Outcome → ℕ → List ℕ
 drawn (Same answer) leaf = []
 drawn (New answer row) leaf = leaf ∷ []
+
+-- the leaf of the row that it adds, if it adds one, is below this
+abbrev pub AddsBelow : Outcome → ℕ → Type 0
+AddsBelow (Same answer) limit = Unit {0}
+AddsBelow (New answer row) limit = row.leaf < limit
 
 -- the contents after it
 abbrev pub contents_after : Outcome → Request → List Content → List Content

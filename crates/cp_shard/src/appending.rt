@@ -33,10 +33,12 @@ impl Shard {
         requires get { (attestation_view attestation).kind ≡ 2 }
         requires limit { limit ≤ 2 ^ 32 }
         ensures appended { IfOk result (λ leaf. self.new ≡ record self.old { items = self.old.items ++ Row pass leaf 0 text ∷ [] }) }
+        ensures below { IfOk result (λ leaf. leaf < limit) }
         ensures given { IfOk result (λ leaf. L.given leaves.new ≡ L.given leaves.old ++ leaf ∷ []) }
         ensures unchanged { OnErr result (self.new ≡ self.old) }
         ensures none_given { OnErr result (L.given leaves.new ≡ L.given leaves.old) }
         ensures found { L.found leaves.old ≤ L.found leaves.new }
+        ensures fixed { L.fixed leaves.new ≡ L.fixed leaves.old }
         ensures late { IfErr result (IsLate 0 0 limit (L.found leaves.new)) }
     {
         let block = attestation.block;
@@ -94,10 +96,12 @@ impl Shard {
         ensures index { self.new.index ≡ self.old.index }
         ensures pages { self.new.pages ≡ self.old.pages }
         ensures closings { self.new.closings ≡ self.old.closings }
+        ensures below { IfOk result (λ leaf. leaf < limit) }
         ensures given { IfOk result (λ leaf. L.given leaves.new ≡ L.given leaves.old ++ leaf ∷ []) }
         ensures unchanged { OnErr result (self.new ≡ self.old) }
         ensures none_given { OnErr result (L.given leaves.new ≡ L.given leaves.old) }
         ensures found { L.found leaves.old ≤ L.found leaves.new }
+        ensures fixed { L.fixed leaves.new ≡ L.fixed leaves.old }
         ensures late { IfErr result (IsLate (pages_free self.old.pages self.old.items) (pages_for (length content.now)) limit (L.found leaves.new)) }
     {
         let block = attestation.block;

@@ -15,9 +15,11 @@ use std::collections::btree_map::Entry;
 /// Draws a leaf. A refusal draws none.
 fn draw_leaf<L: LeafSource>(leaves: &mut L, limit: u64) -> Result<u32, CallRefusal>
     requires { limit ≤ 2 ^ 32 }
+    ensures below { IfOk result (λ leaf. leaf < limit) }
     ensures given { IfOk result (λ leaf. L.given leaves.new ≡ L.given leaves.old ++ leaf ∷ []) }
     ensures none_given { OnErr result (L.given leaves.new ≡ L.given leaves.old) }
     ensures found { L.found leaves.old ≤ L.found leaves.new }
+    ensures fixed { L.fixed leaves.new ≡ L.fixed leaves.old }
     ensures late { IfErr result (IsLate 0 0 limit (L.found leaves.new)) }
 {
     match leaves.draw(limit) {
@@ -38,10 +40,12 @@ pub fn draw<L: LeafSource>(
     requires new { tree.get key_cmp places.old key ≡ None }
     requires limit { limit ≤ 2 ^ 32 }
     ensures places { OnOk result ((k : Key) → tree.get key_cmp places.new k ≡ cond (tree.is_at (key_cmp key) k) (Some place) (tree.get key_cmp places.old k)) }
+    ensures below { IfOk result (λ leaf. leaf < limit) }
     ensures given { IfOk result (λ leaf. L.given leaves.new ≡ L.given leaves.old ++ leaf ∷ []) }
     ensures unchanged { OnErr result ((k : Key) → tree.get key_cmp places.new k ≡ tree.get key_cmp places.old k) }
     ensures none_given { OnErr result (L.given leaves.new ≡ L.given leaves.old) }
     ensures found { L.found leaves.old ≤ L.found leaves.new }
+    ensures fixed { L.fixed leaves.new ≡ L.fixed leaves.old }
     ensures late { IfErr result (IsLate 0 0 limit (L.found leaves.new)) }
 {
     match places.entry(key) {
@@ -72,6 +76,7 @@ pub fn place_and_draw<L: LeafSource>(
     requires limit { limit ≤ 2 ^ 32 }
     requires len { length content.now ≤ 2 ^ 32 }
     ensures places { OnOk result ((k : Key) → tree.get key_cmp places.new k ≡ cond (tree.is_at (key_cmp key) k) (Some place) (tree.get key_cmp places.old k)) }
+    ensures below { IfOk result (λ r. r.0 < limit) }
     ensures given { IfOk result (λ r. L.given leaves.new ≡ L.given leaves.old ++ r.0 ∷ []) }
     ensures placed { IfOk result (λ r. IsPlaced pool.old pool.new content.now r.1) }
     ensures fits { OnOk result (pages_for (length content.now) ≤ free_pages pool.old) }
@@ -79,6 +84,7 @@ pub fn place_and_draw<L: LeafSource>(
     ensures pool { OnErr result (pool.new ≡ pool.old) }
     ensures none_given { OnErr result (L.given leaves.new ≡ L.given leaves.old) }
     ensures found { L.found leaves.old ≤ L.found leaves.new }
+    ensures fixed { L.fixed leaves.new ≡ L.fixed leaves.old }
     ensures late { IfErr result (IsLate (free_pages pool.old) (pages_for (length content.now)) limit (L.found leaves.new)) }
 {
     match pool.place(content) {

@@ -4,7 +4,7 @@ ghost use Rattle.sha2.specs.Sha256.{sha256};
 ghost use Rattle.cp_core.specs.Calls.{content_at};
 ghost use Rattle.cp_core.specs.Life.{shard_of};
 ghost use Rattle.cp_core.specs.declared.answer.Answer.TheVariants as spoken;
-ghost use Rattle.cp_shard.specs.Steps.{added, answer_in, contents_after, drawn, early, OnMemory, put_of, Refuses, step_of};
+ghost use Rattle.cp_shard.specs.Steps.{added, AddsBelow, answer_in, contents_after, drawn, early, OnMemory, put_of, Refuses, step_of};
 
 use crate::booking::{attest, text_of};
 use crate::shard::Shard;
@@ -39,10 +39,12 @@ impl Shard {
         requires len { length content.now ≤ 65536 }
         requires limit { limit ≤ 2 ^ 32 }
 
-        // The answer, the item that is added, the contents and the leaf that is drawn are the step's.
+        // The answer, the item that is added, the contents and the leaf that is drawn are the step's. The
+        // added row's leaf is below the limit.
         ensures answer { IfOk result (λ b. answer_in (step_of self.old pass (put_of put.now content.now) (Ok b.leaf)) ≡ spoken.Booked b) }
         ensures items { IfOk result (λ b. self.new.items ≡ self.old.items ++ added (step_of self.old pass (put_of put.now content.now) (Ok b.leaf))) }
         ensures contents { IfOk result (λ b. (block : ℕ) → content_at self.new.contents block ≡ content_at (contents_after (step_of self.old pass (put_of put.now content.now) (Ok b.leaf)) (put_of put.now content.now) self.old.contents) block) }
+        ensures below { IfOk result (λ b. AddsBelow (step_of self.old pass (put_of put.now content.now) (Ok b.leaf)) limit) }
         ensures given { IfOk result (λ b. L.given leaves.new ≡ L.given leaves.old ++ drawn (step_of self.old pass (put_of put.now content.now) (Ok b.leaf)) b.leaf) }
 
         // What the shard was made with stays.
@@ -57,6 +59,7 @@ impl Shard {
         ensures unchanged { OnErr result (self.new ≡ self.old) }
         ensures none_given { OnErr result (L.given leaves.new ≡ L.given leaves.old) }
         ensures found { L.found leaves.old ≤ L.found leaves.new }
+        ensures fixed { L.fixed leaves.new ≡ L.fixed leaves.old }
     {
         let request = put.request();
         match self.early_put(alloc, request) {

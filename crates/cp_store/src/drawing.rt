@@ -7,6 +7,10 @@ use crate::leaves::Leaves;
 use cp_core::{LeafSource, LeavesOver};
 
 impl LeafSource for Leaves {
+    type Fixed = u64;
+
+    ghost fixed = { λ l. l.limit };
+
     ghost given = { given_by };
 
     ghost found = { found_by };
@@ -20,6 +24,7 @@ impl LeafSource for Leaves {
             (λ _. given_by self.new ≡ given_by self.old) }
         ensures over { IfErr result (λ over. (over.limit ≡ limit) × (limit ≤ over.drawn) × (found_by self.new ≡ over.drawn)) }
         ensures found { found_by self.old ≤ found_by self.new }
+        ensures fixed { self.new.limit ≡ self.old.limit }
     {
         let leaf = self.next;
         if leaf == self.limit {

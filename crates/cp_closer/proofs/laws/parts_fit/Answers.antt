@@ -2,4 +2,4 @@ use Rattle.cp_closer.proofs.Fitting as fitting
 use Rattle.cp_closer.proofs.laws.parts_fit.Goals as goal
 
 pub returns : goal.returns
-returns c = fitting.parts_fit
+returns c = fitting.any_parts_fit

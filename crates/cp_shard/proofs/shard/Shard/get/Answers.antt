@@ -1,4 +1,4 @@
-use Rattle.std.proofs.Common.{◌≡◌, ◌++◌, Ok, refl, sym, ap, ◌∙◌, arith}
+use Rattle.std.proofs.Common.{◌≡◌, ◌++◌, Ok, refl, sym, ap, subst, ◌∙◌, arith}
 use Rattle.std.proofs.lemmas.List.{append-nil}
 use Rattle.cp_statements.specs.Attestation.{Attestation}
 use Rattle.cp_statements.specs.View.{attestation_view}
@@ -9,7 +9,7 @@ use Rattle.cp_core.specs.Calls.{Outcome, attested, head_of}
 use Rattle.cp_core.specs.declared.request.Request.TheVariants as ask
 use Rattle.cp_core.specs.declared.answer.Answer.TheVariants as spoken
 use Rattle.cp_shard.specs.Model.{ShardModel}
-use Rattle.cp_shard.specs.Steps.{answer_in, added, drawn, said, step_of}
+use Rattle.cp_shard.specs.Steps.{answer_in, added, AddsBelow, drawn, said, step_of}
 use Rattle.cp_shard.proofs.Whole.{refuses_said, refuses_late, settled_step, new_step, next_is, get_entry, get_content, signed_at, tip_head, epoch_some}
 use Rattle.cp_shard.proofs.shard.Shard.get.Goals as goal
 
@@ -24,6 +24,11 @@ returns-in-Ok-Some-clause-items g c =
     let v = c.args.self.now in
     let step = settled_step v c.args.pass (ask.Get c.args.request.now) (spoken.Booked c.in-Ok-Some.booked) (Ok c.in-Ok-Some.booked.leaf) (c.in-Ok-Some.ensures ∙ ap (λ o. said (Ok o)) c.in-Ok-Some.field-0-is) in
     ap (λ xs. record v { items = xs }) (sym (append-nil v.items)) ∙ ap (λ (o : Outcome). record v { items = v.items ++ added o }) (sym step)
+
+pub returns-in-Ok-Some-clause-below : goal.returns-in-Ok-Some-clause-below
+returns-in-Ok-Some-clause-below g c =
+    let step = settled_step c.args.self.now c.args.pass (ask.Get c.args.request.now) (spoken.Booked c.in-Ok-Some.booked) (Ok c.in-Ok-Some.booked.leaf) (c.in-Ok-Some.ensures ∙ ap (λ o. said (Ok o)) c.in-Ok-Some.field-0-is) in
+    subst (λ (o : Outcome). AddsBelow o c.args.limit) (sym step) tt
 
 pub returns-in-Ok-Some-clause-given : goal.returns-in-Ok-Some-clause-given
 returns-in-Ok-Some-clause-given g c =
@@ -72,6 +77,18 @@ returns-in-Ok-append_get-clause-items g c =
     (get_content v.items v.contents r c.in-Ok-content.content c.in-Ok-content.ensures) in
     c.in-Ok-append_get.ensures.appended ∙ ap (λ (o : Outcome). record v { items = v.items ++ added o }) (sym step)
     ∙ ap (λ (b : Booking). record v { items = v.items ++ added (step_of v c.args.pass (ask.Get r) (Ok b.leaf)) }) (sym c.new.ensures)
+
+pub returns-in-Ok-append_get-clause-below : goal.returns-in-Ok-append_get-clause-below
+returns-in-Ok-append_get-clause-below g c =
+    let v = c.args.self.now in let r = c.args.request.now in let leaf = c.in-Ok-append_get.leaf in
+    let a : Attestation = attestation_view c.attest-attestation.result in
+    let store : c.self.inside.store ≡ v.store = ap (λ (v : ShardModel). v.store) c.self.view_is in
+    let head : c.tip-tip.result.head ≡ head_of v.items r.block = ap (λ (t : Tip). t.head) c.tip-tip.ensures ∙ tip_head v.items r.block in
+    let step = new_step v c.args.pass (ask.Get r) leaf _ a c.in-Ok.text c.in-Ok-content.content (c.in-Ok-None.ensures ∙ ap (λ o. said (Ok o)) c.in-Ok-None.field-0-is) (omega arith)
+    (get_entry v.items r (tip_view c.tip-tip.result) c.tip-tip.ensures) (signed_at (attestation_view c.attest-attestation.result) c.self.inside.store v.store c.tip-tip.result.head (head_of v.items r.block) _ c.attest-attestation.ensures.attested store head) c.in-Ok.ensures
+    (get_content v.items v.contents r c.in-Ok-content.content c.in-Ok-content.ensures) in
+    subst (λ (b : Booking). AddsBelow (step_of v c.args.pass (ask.Get r) (Ok b.leaf)) c.args.limit) (sym c.new.ensures)
+    (subst (λ (o : Outcome). AddsBelow o c.args.limit) (sym step) c.in-Ok-append_get.ensures.below)
 
 pub returns-in-Ok-append_get-clause-given : goal.returns-in-Ok-append_get-clause-given
 returns-in-Ok-append_get-clause-given g c =

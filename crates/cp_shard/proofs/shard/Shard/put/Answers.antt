@@ -13,7 +13,7 @@ use Rattle.cp_core.specs.declared.request.Request.TheVariants as ask
 use Rattle.cp_core.specs.declared.answer.Answer.TheVariants as spoken
 use Rattle.cp_pages.specs.Pages.{pages_for}
 use Rattle.cp_shard.specs.Model.{ShardModel}
-use Rattle.cp_shard.specs.Steps.{answer_in, added, contents_after, drawn, early, OnMemory, put_of, Refuses, said, step_of}
+use Rattle.cp_shard.specs.Steps.{answer_in, added, AddsBelow, contents_after, drawn, early, OnMemory, put_of, Refuses, said, step_of}
 use Rattle.cp_shard.proofs.PutPages.{pages_is}
 use Rattle.cp_shard.proofs.Whole.{early_any, put_is, put_version, epoch_some, signature_few, refuses_early, refuses_late, memory_early, settled_step, new_step, next_is, put_entry, no_content, signed_at, tip_head, put_memory, put_reads}
 use Rattle.cp_shard.proofs.shard.Shard.put.Goals as goal
@@ -59,6 +59,15 @@ returns-in-Ok-Some-clause-contents g c =
     let found : early v.store v.items v.contents asked ≡ Some (spoken.Booked c.in-Ok-Some.booked) = early_any v.store v.items v.contents q p.signature bytes ∙ (c.in-Ok-Some.ensures ∙ ap (λ o. said (Ok o)) c.in-Ok-Some.field-0-is) in
     let step = settled_step v c.args.pass asked (spoken.Booked c.in-Ok-Some.booked) (Ok c.in-Ok-Some.booked.leaf) found in
     λ block. subst (λ r. content_at v.contents block ≡ content_at (contents_after (step_of v c.args.pass r (Ok c.in-Ok-Some.booked.leaf)) r v.contents) block) is (ap (λ (o : Outcome). content_at (contents_after o asked v.contents) block) (sym step))
+
+pub returns-in-Ok-Some-clause-below : goal.returns-in-Ok-Some-clause-below
+returns-in-Ok-Some-clause-below g c =
+    let v = c.args.self.now in let q = c.request-request.result.now in let p = c.args.put.now in let bytes = c.args.content.now in
+    let asked : Request = ask.Put q p.signature bytes in
+    let is : asked ≡ put_of p bytes = put_is p q bytes c.request-request.ensures.request in
+    let found : early v.store v.items v.contents asked ≡ Some (spoken.Booked c.in-Ok-Some.booked) = early_any v.store v.items v.contents q p.signature bytes ∙ (c.in-Ok-Some.ensures ∙ ap (λ o. said (Ok o)) c.in-Ok-Some.field-0-is) in
+    let step = settled_step v c.args.pass asked (spoken.Booked c.in-Ok-Some.booked) (Ok c.in-Ok-Some.booked.leaf) found in
+    subst (λ r. AddsBelow (step_of v c.args.pass r (Ok c.in-Ok-Some.booked.leaf)) c.args.limit) is (subst (λ (o : Outcome). AddsBelow o c.args.limit) (sym step) tt)
 
 pub returns-in-Ok-Some-clause-given : goal.returns-in-Ok-Some-clause-given
 returns-in-Ok-Some-clause-given g c =
@@ -197,6 +206,25 @@ returns-in-Ok-append_put-clause-contents g c =
     λ b. subst (λ r. content_at c.append_put.new.self.contents b ≡ content_at (contents_after (step_of v c.args.pass r (Ok c.new-in-Ok-append_put.result.leaf)) r v.contents) b) is
     (c.in-Ok-append_put.ensures.contents b ∙ ap (λ k. cond (eqb k b) bytes (content_at v.contents b)) blocks ∙ put_reads v.contents q p.signature bytes b
     ∙ ap (λ (o : Outcome). content_at (contents_after o asked v.contents) b) (sym step) ∙ ap (λ (x : Booking). content_at (contents_after (step_of v c.args.pass asked (Ok x.leaf)) asked v.contents) b) (sym c.new-in-Ok-append_put.ensures))
+
+pub returns-in-Ok-append_put-clause-below : goal.returns-in-Ok-append_put-clause-below
+returns-in-Ok-append_put-clause-below g c =
+    let v = c.args.self.now in let q = c.request-request.result.now in let p = c.args.put.now in let bytes = c.args.content.now in
+    let asked : Request = ask.Put q p.signature bytes in
+    let is : asked ≡ put_of p bytes = put_is p q bytes c.request-request.ensures.request in
+    let found : early v.store v.items v.contents asked ≡ None = early_any v.store v.items v.contents q p.signature bytes ∙ (c.in-Ok-None.ensures ∙ ap (λ o. said (Ok o)) c.in-Ok-None.field-0-is) in
+    let store : c.self.inside.store ≡ v.store = ap (λ (v : ShardModel). v.store) c.self.view_is in
+    let head : c.tip-tip.result.head ≡ head_of v.items q.block = ap (λ (t : Tip). t.head) c.tip-tip.ensures ∙ tip_head v.items q.block in
+    let entry =
+    ap (λ s. record { kind = 1; epoch = q.epoch; block = q.block; position = c.tip-tip.result.count; client = q.client; nonce = q.nonce; version = q.version; content = q.content; signature = s }) c.signature.ensures.signature
+    ∙ put_entry v.items q p.signature bytes (tip_view c.tip-tip.result) c.tip-tip.ensures in
+    let signed = signed_at (attestation_view c.attest-attestation.result) c.self.inside.store v.store c.tip-tip.result.head (head_of v.items q.block) _ c.attest-attestation.ensures.attested store head in
+    let leaf = c.in-Ok-append_put.leaf in
+    let room : pages_of asked ≤ pages_free v.pages v.items = omega (arith, c.in-Ok-append_put.ensures.fits, pages_is (length bytes)) in
+    let step = new_step v c.args.pass asked leaf _ (attestation_view c.attest-attestation.result) c.in-Ok.text [] found room entry signed c.in-Ok.ensures (no_content v.items v.contents q p.signature bytes [] refl) in
+    subst (λ r. AddsBelow (step_of v c.args.pass r (Ok c.new-in-Ok-append_put.result.leaf)) c.args.limit) is
+    (subst (λ (b : Booking). AddsBelow (step_of v c.args.pass asked (Ok b.leaf)) c.args.limit) (sym c.new-in-Ok-append_put.ensures)
+    (subst (λ (o : Outcome). AddsBelow o c.args.limit) (sym step) c.in-Ok-append_put.ensures.below))
 
 pub returns-in-Ok-append_put-clause-given : goal.returns-in-Ok-append_put-clause-given
 returns-in-Ok-append_put-clause-given g c =
