@@ -4,8 +4,10 @@ use Rattle.std.specs.Global.{Vec}
 use Rattle.cp_statements.specs.Envelope.{Envelope}
 use Rattle.cp_chain.specs.Rules.{first_of, or_else}
 use Rattle.cp_evidence.specs.Evidence.{Evidence}
-use Rattle.cp_evidence.specs.Material.{GivenEpoch}
-use Rattle.cp_evidence.specs.Verdict.{guilt_by_kind}
+use Rattle.cp_evidence.specs.Evidence.Evidence.{K5}
+use Rattle.cp_evidence.specs.Material.{GivenEpoch, envelope_before}
+use Rattle.cp_evidence.specs.Verdict.{evidence_if, guilt_by_kind, link_is_wrong}
+use Rattle.cp_audit.specs.LogParts.{TablesStand}
 use Rattle.cp_audit.specs.Rows.{Writes}
 use Rattle.cp_audit.proofs.RowLemmas.{WritesOut}
 use Rattle.cp_audit.specs.Verdicts.{by_one, by_two, by_tables, by_log}
@@ -37,3 +39,9 @@ grouped o xs =
     let three : first_of (by_tables o ++ by_log o xs) ≡ or_else (first_of (by_tables o)) (first_of (by_log o xs)) = first_append (by_tables o) (by_log o xs) in
     let two : first_of (by_two o xs ++ (by_tables o ++ by_log o xs)) ≡ or_else (first_of (by_two o xs)) (or_else (first_of (by_tables o)) (first_of (by_log o xs))) = first_append (by_two o xs) (by_tables o ++ by_log o xs) ∙ ap (or_else (first_of (by_two o xs))) three in
     first_append (by_one o xs) (by_two o xs ++ (by_tables o ++ by_log o xs)) ∙ ap (or_else (first_of (by_one o xs))) two
+
+-- ---- tables that stand
+
+-- they show nothing but a wrong link
+pub none_by_tables : (o : GivenEpoch) → TablesStand o → evidence_if (link_is_wrong o) (K5 (record { x = o.closing.envelope; y = envelope_before o.before })) ≡ None → first_of (by_tables o) ≡ None
+none_by_tables o stand link = rw (link, stand.before, stand.after, stand.kept) refl

@@ -3,7 +3,7 @@ ghost use Rattle.cp_statements.specs.View.{envelope_view};
 ghost use Rattle.cp_chain.specs.Rules.{first_of};
 ghost use Rattle.cp_evidence.specs.Verdict.{guilt_by_kind};
 ghost use Rattle.cp_audit.specs.Given.{given_view};
-ghost use Rattle.cp_audit.specs.LogParts.{AreLogParts};
+ghost use Rattle.cp_audit.specs.LogParts.{AreLogParts, StandWhereRead};
 ghost use Rattle.cp_audit.specs.Rows.{Writes};
 ghost use Rattle.cp_audit.specs.Verdicts as verdicts;
 ghost use Rattle.std.specs.Prelude.{map};
@@ -66,12 +66,16 @@ fn by_two(alloc: Global, o: &GivenEpoch, xs: &[Envelope]) -> Result<Option<Vec<u
     one_place(alloc, &o.store, xs)
 }
 
-// What the closings and the tables show.
+// What the closings and the tables show. Where the log was read, the tables were judged before.
 fn by_tables(alloc: Global, o: &GivenEpoch) -> Result<Option<Vec<u8>>, OutOfMemory>
+    requires { StandWhereRead (given_view o.now) }
     ensures { Writes (first_of (verdicts.by_tables (given_view o.now))) result }
 {
     if let Some(found) = wrong_link(alloc, o)? {
         return Ok(Some(found));
+    }
+    if let Some(_parts) = &o.log {
+        return Ok(None);
     }
     if let Some(found) = bad_table_before(alloc, o)? {
         return Ok(Some(found));
