@@ -15,7 +15,7 @@ use crate::by_tables::fits;
 use crate::given::GivenEpoch;
 use crate::part::Part;
 use cp_bytes::OutOfMemory;
-use cp_chain::{Fault, first_fault};
+use cp_chain::{Fault, first_fault_by_index};
 use cp_evidence::write_k7;
 use std::alloc::{AllocError, Global};
 
@@ -29,7 +29,7 @@ pub(crate) fn illegal(
     ensures { Writes (first_of (map (fault_in (given_view o.now)) (map part_view parts.now))) result }
 {
     for part in parts {
-        if let Some(fault) = first_fault(&part.frame, &part.segment) {
+        if let Some(fault) = first_fault_by_index(alloc, &part.frame, &part.segment)? {
             let written = write_fault(alloc, o, part, fault)?;
             return Ok(Some(written));
         }

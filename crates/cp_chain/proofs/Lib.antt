@@ -10,5 +10,7 @@ pub mod Calls
 pub mod Places
 pub mod Passes
 pub mod Nonces
+pub mod Going
+pub mod Indexes
 pub mod LogReadings
 pub mod LogOrder

@@ -1,17 +1,17 @@
 -- The first fault at a place, by what was found there.
-use Rattle.std.proofs.Common.{◌≡◌, ℕ, zero, suc, ◌+◌, ◌-◌, ◌<◌, Bool, true, false, cond, not, ◌&&◌, eqb, ltb, List, [], ◌∷◌, ◌++◌, length, get_or, take, map, Option, Some, None, Result, Ok, Err, refl, sym, ap, ◌∙◌, arith}
+use Rattle.std.proofs.Common.{◌≡◌, ℕ, zero, suc, ◌+◌, ◌<◌, Bool, true, false, cond, not, ◌&&◌, eqb, ltb, List, [], ◌∷◌, ◌++◌, length, get_or, take, map, Option, Some, None, Result, Ok, Err, refl, sym, ap, ◌∙◌, arith}
 use Rattle.std.specs.Prelude.{IsNone, IfSome, find, option_map, position, unwrap_or}
 use Rattle.std.specs.List.{AllByRecursion, position_from}
 use Rattle.std.proofs.lemmas.Bool.{lt-ltb, le-ltb, eq-eqb, ne_eqb}
 use Rattle.std.proofs.lemmas.Iterator.Adapters.{position_from-zero}
-use Rattle.std.proofs.lemmas.List.{take_all, take_more, get_or-take, length-take-le}
+use Rattle.std.proofs.lemmas.List.{take_more, get_or-take, length-take-le}
 use Rattle.cp_statements.specs.Entry.{Entry, entry_of}
 use Rattle.cp_families.specs.Writers.{writer}
-use Rattle.cp_chain.specs.Frame.{Frame}
+use Rattle.cp_chain.specs.Frame.{Side, Frame}
 use Rattle.cp_chain.specs.Legal.{ok_and, Put, same_put, put_at, put_by, put_read, put_in, latest, is_call, Legal}
 use Rattle.cp_chain.specs.Rules.{Rule, text_at, entry_at_fault, broken, Found, or_else, first_of, from_on, found_if, rule_at, IsFirstFault, first_fault}
 use Rattle.cp_chain.specs.Rules.Rule.{Text, Block, Epoch, Position, Latest, Version, Writer, Repeat, LastTip}
-use Rattle.cp_chain.specs.Pass.{fault_at, rules_of_one, entry_breaks}
+use Rattle.cp_chain.specs.Pass.{fault_at, fault_alone, fault_behind, fault_read, rules_of_one, entry_breaks}
 use Rattle.cp_chain.proofs.Found.{none_on}
 use Rattle.cp_chain.proofs.Chain.{latest-append, latest-one}
 use Rattle.cp_chain.proofs.Firsts.{no_fault_legal, legal_no_fault, first_fault_least}
@@ -199,7 +199,7 @@ find_view view p (x ∷ xs) = go (p (view x)) (find_view view p xs)
 -- ---- the step of the pass
 
 -- what was found first, in the order of the rules
-pub at_entry : (f : Frame) (ts : List (List ℕ)) (i : ℕ) (e : Entry) (text : List ℕ) (put : Put) (first : Option Rule) (again : Option ℕ) → i < length ts → text ≡ text_at ts i → entry_of text ≡ Ok e → put ≡ latest (put_at f.side.before) (take i ts)
+at_entry : (f : Frame) (ts : List (List ℕ)) (i : ℕ) (e : Entry) (text : List ℕ) (put : Put) (first : Option Rule) (again : Option ℕ) → i < length ts → text ≡ text_at ts i → entry_of text ≡ Ok e → put ≡ latest (put_at f.side.before) (take i ts)
     → first ≡ find (entry_breaks f.side put i e) rules_of_one → again ≡ position (is_call e.client e.nonce) (take i ts)
     → fault_at f ts i ≡ or_else (option_map (λ r. found r i 0) first) (option_map (found Repeat i) again)
 at_entry f ts i e text put first again lt here read carried alone repeated =
@@ -209,7 +209,7 @@ at_entry f ts i e text put first again lt here read carried alone repeated =
     ∙ ap (λ (o : Option Rule). or_else (option_map (λ r. found r i 0) o) (option_map (found Repeat i) (position (is_call e.client e.nonce) (take i ts)))) (sym alone)
     ∙ ap (λ (o : Option ℕ). or_else (option_map (λ r. found r i 0) first) (option_map (found Repeat i) o)) (sym repeated)
 
-pub at_no_entry : (f : Frame) (ts : List (List ℕ)) (i left : ℕ) (text : List ℕ) → i < length ts → text ≡ text_at ts i → entry_of text ≡ Err left → fault_at f ts i ≡ Some (found Text i 0)
+at_no_entry : (f : Frame) (ts : List (List ℕ)) (i left : ℕ) (text : List ℕ) → i < length ts → text ≡ text_at ts i → entry_of text ≡ Err left → fault_at f ts i ≡ Some (found Text i 0)
 at_no_entry f ts i left text lt here read = fault_at_no_entry f ts i left lt (ap entry_of (sym here) ∙ read)
 
 pub put_behind : (p put : Put) (ts : List (List ℕ)) (i : ℕ) (e : Entry) (text : List ℕ) → i < length ts → text ≡ text_at ts i → entry_of text ≡ Ok e → put ≡ latest p (take i ts) → unwrap_or (put_read (Ok e)) put ≡ latest p (take (i + 1) ts)
@@ -218,14 +218,31 @@ put_behind p put ts i e text lt here read carried =
     ap (unwrap_or (put_read (Ok e))) carried ∙ ap (λ (o : Option Put). unwrap_or o (latest p (take i ts))) (sym is) ∙ sym (latest-one (latest p (take i ts)) (text_at ts i))
     ∙ sym (latest-append p (take i ts) (text_at ts i ∷ [])) ∙ ap (latest p) (sym (take_more ts i [] lt))
 
--- what is left at the end
-pub at_last : (f : Frame) (ts : List (List ℕ)) (i end : ℕ) (put : Put) (b : Bool) → i ≡ length ts → end ≡ length ts → put ≡ latest (put_at f.side.before) (take i ts) → b ≡ same_put put (put_at f.after)
-    → first_fault f ts ≡ from_on (fault_at f ts) (length ts - i) i → first_fault f ts ≡ found_if (not b) (found LastTip end 0)
-at_last f ts i end put b here last carried is unbroken =
-    let all : put ≡ latest (put_at f.side.before) ts = carried ∙ ap (latest (put_at f.side.before)) (take_all i ts (omega (arith, here))) in
-    let same : same_put (latest (put_at f.side.before) ts) (put_at f.after) ≡ b = ap (λ (p : Put). same_put p (put_at f.after)) (sym all) ∙ sym is in
-    let place : i ≡ end = here ∙ sym last in
-    unbroken ∙ ends_at (fault_at f ts) (length ts - i) i (omega (arith, here)) ∙ fault_at_end f ts i here ∙ ap (λ (t : Bool). found_if (not t) (found LastTip i 0)) same ∙ ap (λ (k : ℕ). found_if (not b) (found LastTip k 0)) place
+-- what an entry breaks by itself
+pub alone_at_entry : (s : Side) (put : Put) (i : ℕ) (text : List ℕ) (e : Entry) (first : Option Rule) → entry_of text ≡ Ok e → first ≡ find (entry_breaks s put i e) rules_of_one → fault_alone s put i text ≡ option_map (λ r. found r i 0) first
+alone_at_entry s put i text e first read is = ap (fault_read s put i) read ∙ ap (option_map (λ r. found r i 0)) (sym is)
+
+-- what the text breaks by itself comes before a repeated call
+pub at_fault_alone : (f : Frame) (ts : List (List ℕ)) (i : ℕ) (text : List ℕ) (put : Put) (x : Found) → i < length ts → text ≡ text_at ts i → put ≡ latest (put_at f.side.before) (take i ts) → fault_alone f.side put i text ≡ Some x → fault_at f ts i ≡ Some x
+at_fault_alone f ts i text put x lt here carried alone = go (entry_of text) refl
+  where
+    go : (r : Result Entry ℕ) → entry_of text ≡ r → fault_at f ts i ≡ Some x
+    go (Err left) read = at_no_entry f ts i left text lt here read ∙ ap (fault_read f.side put i) (sym read) ∙ alone
+    go (Ok e) read =
+        let again = position (is_call e.client e.nonce) (take i ts) in
+        at_entry f ts i e text put (find (entry_breaks f.side put i e) rules_of_one) again lt here read carried refl refl
+        ∙ ap (λ (o : Option Found). or_else o (option_map (found Repeat i) again)) (ap (fault_read f.side put i) (sym read) ∙ alone)
+
+-- where it breaks none by itself, a repeated call decides
+pub at_sound : (f : Frame) (ts : List (List ℕ)) (i : ℕ) (e : Entry) (text : List ℕ) (put : Put) (again : Option ℕ) → i < length ts → text ≡ text_at ts i → entry_of text ≡ Ok e → put ≡ latest (put_at f.side.before) (take i ts)
+    → fault_alone f.side put i text ≡ None → again ≡ position (is_call e.client e.nonce) (take i ts) → fault_at f ts i ≡ option_map (found Repeat i) again
+at_sound f ts i e text put again lt here read carried alone repeated =
+    at_entry f ts i e text put (find (entry_breaks f.side put i e) rules_of_one) again lt here read carried refl repeated
+    ∙ ap (λ (o : Option Found). or_else o (option_map (found Repeat i) again)) (ap (fault_read f.side put i) (sym read) ∙ alone)
+
+-- what is found at the end
+pub at_last : (f : Frame) (ts : List (List ℕ)) (end : ℕ) (put : Put) → end ≡ length ts → put ≡ latest (put_at f.side.before) ts → fault_behind f put end ≡ fault_at f ts (length ts)
+at_last f ts end put last carried = ap (λ (p : Put). fault_behind f p end) carried ∙ ap (fault_behind f (latest (put_at f.side.before) ts)) last ∙ sym (fault_at_end f ts (length ts) refl)
 
 -- ---- the clauses of the first fault
 

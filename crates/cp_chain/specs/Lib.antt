@@ -7,4 +7,5 @@ pub mod Rules
 pub mod Standing
 pub mod Laws
 pub mod Pass
+pub mod Index
 pub mod View

@@ -1,11 +1,11 @@
 -- What is found at one place of a segment, as its texts are gone through from the front.
-use Rattle.std.specs.Prelude.{ℕ, ◌+◌, ◌≡◌, ◌≤◌, Bool, false, not, ◌&&◌, List, [], ◌∷◌, map, Option, Ok, ◌==◌}
+use Rattle.std.specs.Prelude.{ℕ, ◌+◌, ◌≡◌, ◌≤◌, Bool, false, not, ◌&&◌, List, [], ◌∷◌, map, find, option_map, Option, Some, Result, Ok, Err, ◌==◌}
 use Rattle.std.specs.List.{AllByRecursion}
 use Rattle.cp_statements.specs.Entry.{Entry, entry_of}
 use Rattle.cp_families.specs.Writers.{writer}
 use Rattle.cp_chain.specs.Frame.{Side, Frame}
-use Rattle.cp_chain.specs.Legal.{Put, same_put, put_by}
-use Rattle.cp_chain.specs.Rules.{Rule, all_rules, Found, first_of, rule_at}
+use Rattle.cp_chain.specs.Legal.{Put, same_put, put_at, put_by}
+use Rattle.cp_chain.specs.Rules.{Rule, all_rules, Found, first_of, found_if, rule_at}
 use Rattle.cp_chain.specs.Rules.Rule.{Text, Block, Epoch, Position, Latest, Version, Writer, Repeat, LastTip}
 
 -- the first fault at place i
@@ -27,6 +27,19 @@ entry_breaks s latest i e Version = (e.kind == 1) && not (e.version == latest.ve
 entry_breaks s latest i e Writer = (e.kind == 1) && not (writer s.families s.store e)
 entry_breaks s latest i e Repeat = false
 entry_breaks s latest i e LastTip = false
+
+-- the first fault at place i of what was read there, but for a repeated call
+abbrev pub fault_read : Side → Put → ℕ → Result Entry ℕ → Option Found
+fault_read s latest i (Ok e) = option_map (λ rule. record { rule = rule; place = i; other = 0 }) (find (entry_breaks s latest i e) rules_of_one)
+fault_read s latest i (Err left) = Some (record { rule = Text; place = i; other = 0 })
+
+-- the first fault of the text at place i by itself, where this is the latest put before it
+abbrev pub fault_alone : Side → Put → ℕ → List ℕ → Option Found
+fault_alone s latest i text = fault_read s latest i (entry_of text)
+
+-- the fault behind so many texts, where this is the latest put of them
+abbrev pub fault_behind : Frame → Put → ℕ → Option Found
+fault_behind f latest n = found_if (not (same_put latest (put_at f.after))) (record { rule = LastTip; place = n; other = 0 })
 
 -- no text that is an entry has a greater nonce
 abbrev pub NoncesWithin : ℕ → List (List ℕ) → Type 0

@@ -1,8 +1,9 @@
 //! The first fault of a segment.
 ghost use Rattle.std.specs.Prelude.{◌≡◌, ◌↔◌, ◌+◌, ◌<◌, length, take, find, option_map, IfSome, IsNone, MatchResult, Some, None};
+ghost use Rattle.cp_statements.specs.Entry.{entry_of};
 ghost use Rattle.cp_statements.specs.View.{entry_view};
 ghost use Rattle.cp_chain.specs.Legal.{Legal, latest, put_at};
-ghost use Rattle.cp_chain.specs.Pass.{NoncesWithin, entry_breaks, fault_at};
+ghost use Rattle.cp_chain.specs.Pass.{NoncesWithin, entry_breaks, fault_alone, fault_at, fault_behind};
 ghost use Rattle.cp_chain.specs.Rules.{IsFirstFault, first_fault, text_at};
 ghost use Rattle.cp_chain.specs.View.{fault_view, frame_view, put_view, rule_view};
 
@@ -27,9 +28,9 @@ const RULES_OF_ONE: [Rule; 6] = [
 ///
 /// It takes no memory, so a repeated call is looked for among the texts before each entry, but for an
 /// entry whose nonce is above all before it. A look tells nearly every text apart by twelve bytes. A
-/// segment of n texts costs at most n signatures and n^2/2 looks, and none where nonces rise. The
-/// longest segment of a store of height 15, 30,720 texts, costs 470 million looks, some two seconds;
-/// the longest that a log of 320 MiB holds, 3.9 million gets, costs some hours.
+/// segment of n texts costs at most n signatures and n^2/2 looks: none where nonces rise over all
+/// clients together, and nearly as many where several clients each count theirs from 1.
+/// `first_fault_by_index` serves where memory may be taken.
 pub fn first_fault(frame: &Frame, segment: &Segment) -> Option<Fault>
     ensures fault { option_map fault_view result ≡ first_fault (frame_view frame.now) segment.now }
     ensures none { IsNone result ↔ Legal (frame_view frame.now) segment.now }
@@ -62,14 +63,7 @@ fn find_fault(frame: &Frame, segment: &Segment) -> Option<Fault>
         }
         place += 1;
     }
-    if passed.put.is(&Put::at(&frame.after)) {
-        return None;
-    }
-    Some(Fault {
-        rule: Rule::LastTip,
-        place: end,
-        other: 0,
-    })
+    end_fault(frame, &passed.put, end)
 }
 
 /// Passes over the text at `place`, where `passed` is what those before it leave: what is left behind
@@ -89,20 +83,7 @@ fn pass(
         (λ next. (fault_at (frame_view frame.now) segment.now place ≡ None) × (put_view next.put ≡ latest (put_at (frame_view frame.now).side.before) (take (place + 1) segment.now)) × NoncesWithin next.nonce (take (place + 1) segment.now))
         (λ fault. fault_at (frame_view frame.now) segment.now place ≡ Some (fault_view fault)) }
 {
-    let Ok(entry) = Entry::read(text) else {
-        return Err(Fault {
-            rule: Rule::Text,
-            place,
-            other: 0,
-        });
-    };
-    if let Some(rule) = first_alone(frame, &passed.put, place, &entry) {
-        return Err(Fault {
-            rule,
-            place,
-            other: 0,
-        });
-    }
+    let entry = sound_entry(frame, &passed.put, place, text)?;
     match repeated(segment, place, passed.nonce, entry.client, entry.nonce) {
         Some(other) => Err(Fault {
             rule: Rule::Repeat,
@@ -116,6 +97,35 @@ fn pass(
     }
 }
 
+/// The entry of the text at `place`, which breaks no rule by itself, where `put` is the latest put
+/// before it; else its first fault by itself.
+pub(crate) fn sound_entry<'a>(
+    frame: &Frame,
+    put: &Put,
+    place: u64,
+    text: &'a [u8],
+) -> Result<Entry<'a>, Fault>
+    ensures { MatchResult result
+        (λ entry. (entry_of text.now ≡ Ok (entry_view entry)) × (fault_alone (frame_view frame.now).side (put_view put.now) place text.now ≡ None))
+        (λ fault. fault_alone (frame_view frame.now).side (put_view put.now) place text.now ≡ Some (fault_view fault)) }
+{
+    let Ok(entry) = Entry::read(text) else {
+        return Err(Fault {
+            rule: Rule::Text,
+            place,
+            other: 0,
+        });
+    };
+    match first_alone(frame, put, place, &entry) {
+        Some(rule) => Err(Fault {
+            rule,
+            place,
+            other: 0,
+        }),
+        None => Ok(entry),
+    }
+}
+
 /// The first of those rules that the entry breaks at `place`, where `put` is the latest put before it.
 fn first_alone(frame: &Frame, put: &Put, place: u64, entry: &Entry) -> Option<Rule>
     ensures { result ≡ find (λ rule. entry_breaks (frame_view frame.now).side (put_view put.now) place (entry_view entry.now) (rule_view rule)) RULES_OF_ONE }
@@ -124,4 +134,19 @@ fn first_alone(frame: &Frame, put: &Put, place: u64, entry: &Entry) -> Option<Ru
         .iter()
         .copied()
         .find(|rule| entry_breaks(frame, put, place, entry, *rule))
+}
+
+/// The fault at `end`, behind the last text, where `put` is the latest put of all: there is one where
+/// the tip after has another.
+pub(crate) fn end_fault(frame: &Frame, put: &Put, end: u64) -> Option<Fault>
+    ensures { option_map fault_view result ≡ fault_behind (frame_view frame.now) (put_view put.now) end }
+{
+    if put.is(&Put::at(&frame.after)) {
+        return None;
+    }
+    Some(Fault {
+        rule: Rule::LastTip,
+        place: end,
+        other: 0,
+    })
 }

@@ -2,7 +2,10 @@ mod vectors;
 
 use crate::chain::vectors::{LOGS, SEGMENTS};
 use cp_bytes::{OutOfMemory, head};
-use cp_chain::{Fault, Frame, LogText, Rule, Segment, breaks, first_fault, reaches, stands};
+use cp_chain::{
+    Fault, Frame, LogText, Rule, Segment, breaks, first_fault, first_fault_by_index, reaches,
+    stands,
+};
 use cp_families::Families;
 use cp_statements::{Attestation, Entry, Kind, PutRequest};
 use cp_tips::Tip;
@@ -188,10 +191,68 @@ fn each_rule_is_found_where_it_is_broken(rt: HostRuntime) -> Result<(), Fail> {
             after,
         };
         assert_eq!(rt; first_fault(&frame, &segment), *expected);
+        assert_eq!(rt;
+            first_fault_by_index(rt.alloc(), &frame, &segment)?,
+            *expected
+        );
         if let Some(fault) = expected {
             assert!(rt; breaks(&frame, &segment, *fault));
             assert!(rt; !breaks(&frame, &segment, Fault { other: 3, ..*fault }));
         }
+    }
+    Ok(())
+}
+
+#[test]
+fn a_repeat_is_found_by_client_and_nonce(rt: HostRuntime) -> Result<(), Fail> {
+    let first = get_entry(3, 2);
+    let before = Tip {
+        version: REQUEST.version,
+        content: CONTENT,
+        ..BEFORE
+    };
+    let list = b"CPf1\0\0\0\0";
+    let other = Entry {
+        client: 7,
+        ..get_entry(4, 2)
+    };
+    let rows = [
+        // Nonces fall, and another client has the same one.
+        ([first, get_entry(4, 1), get_entry(5, 0)], None),
+        ([first, other, get_entry(5, 3)], None),
+        (
+            [first, get_entry(4, 1), get_entry(5, 2)],
+            fault(Rule::Repeat, 2, 0),
+        ),
+        ([first, other, get_entry(5, 2)], fault(Rule::Repeat, 2, 0)),
+        (
+            [
+                first,
+                other,
+                Entry {
+                    position: 5,
+                    ..other
+                },
+            ],
+            fault(Rule::Repeat, 2, 1),
+        ),
+    ];
+    for (entries, expected) in &rows {
+        let bytes = segment_of(rt.alloc(), entries)?;
+        let segment = Segment::read(bytes.as_slice()).map_err(|_| "refused")?;
+        let frame = Frame {
+            store: STORE,
+            families: Families::read(list).map_err(|_| "refused")?,
+            epoch: 2,
+            block: 5,
+            before,
+            after: Tip { count: 6, ..before },
+        };
+        assert_eq!(rt; first_fault(&frame, &segment), *expected);
+        assert_eq!(rt;
+            first_fault_by_index(rt.alloc(), &frame, &segment)?,
+            *expected
+        );
     }
     Ok(())
 }

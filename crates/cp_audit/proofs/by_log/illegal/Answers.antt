@@ -24,7 +24,7 @@ returns-in-Some c =
     let i = c.loop-part.part-index in
     let lt : c.loop-part.part-index < length parts = omega (arith, c.loop-part-test.true) in
     let framed : frame_view part.frame ≡ frame_for o part.frame.block = subst (λ (p : Part). frame_view p.frame ≡ frame_for o p.frame.block) (sym c.part-item.is) (all_at (λ (p : Part). frame_view p.frame ≡ frame_for o p.frame.block) parts i part c.requires lt) in
-    let found : first_fault (frame_for o part.frame.block) part.segment ≡ Some (fault_view c.in-Some.fault) = ap (λ (f : Frame). first_fault f part.segment) (sym framed) ∙ sym c.in-Some.ensures.fault in
+    let found : first_fault (frame_for o part.frame.block) part.segment ≡ Some (fault_view c.in-Some.fault) = ap (λ (f : Frame). first_fault f part.segment) (sym framed) ∙ sym c.in_ok-fault.ensures.fault ∙ ap (option_map fault_view) c.in-Some.is in
     let here : row part ≡ Some (broken_rule o (part_view part) (fault_view c.in-Some.fault)) = ap (option_map (λ (x : Found). broken_rule o (part_view part) x)) found in
     let there : row (get_or parts i part) ≡ Some (broken_rule o (part_view part) (fault_view c.in-Some.fault)) = ap row (sym c.part-item.is) ∙ here in (
       broken_rule o (part_view part) (fault_view c.in-Some.fault),
