@@ -1,4 +1,4 @@
-//! Worked rows, under a store's key of height 5 and width 8.
+//! Judgements worked out by hand, under a store's key of height 5 and width 8.
 use cp_bytes::{digest, head};
 use cp_evidence::{write_k1, write_k4, write_k5, write_k9, write_k10};
 use cp_judge::{Judgement, judge};

@@ -21,7 +21,7 @@ use Rattle.cp_evidence.specs.Verdict.Verdict.{Clean}
 use Rattle.cp_evidence.proofs.AuditLemmas.{latest_gets}
 use Rattle.cp_client.specs.Accepting.{Tests, first_apart, Accepted, accept_of, read_or_refused, must, same_call, other_than_get, content_fits, head_fits}
 use Rattle.cp_client.specs.Asking.Asked.{Get}
-use Rattle.cp_client.specs.Laws.{AreTwins, IsClean, ServedIsLatest}
+use Rattle.cp_client.specs.Laws.{Collide, IsClean, ServedIsLatest}
 use Rattle.cp_client.specs.declared.field.Field.{Field}
 use Rattle.cp_client.specs.declared.field.Field.TheVariants.{Store, Kind, Epoch, Block, Client, Nonce}
 use Rattle.cp_client.specs.declared.refusals.ClientRefusal.{ClientRefusal}
@@ -126,6 +126,6 @@ latest_served m o bytes hand_ins request reply content x accepted of_epoch above
     let one : sha256 content ≡ sha256 x.content = hash ∙ ap (λ (p : Put). p.content) (sym put) ∙ sym (above_zero request x.attestation x.content above got.content) in
     go (bytes_eq content x.content) refl one
   where
-    go : (b : Bool) → bytes_eq content x.content ≡ b → sha256 content ≡ sha256 x.content → (content ≡ x.content) ⊎ AreTwins content x.content
+    go : (b : Bool) → bytes_eq content x.content ≡ b → sha256 content ≡ sha256 x.content → (content ≡ x.content) ⊎ Collide content x.content
     go true t same = inl ((bytes_eq-Decides content x.content).0 t)
     go false t same = inr (λ is. false≢true (sym t ∙ (bytes_eq-Decides content x.content).1 is), same)

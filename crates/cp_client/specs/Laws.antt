@@ -20,8 +20,8 @@ AskedIsExact = IsExact asked_of asked_text AskedFits
 -- ---- what was served
 
 -- two different contents with one digest
-abbrev pub AreTwins : List ℕ → List ℕ → Type 0
-AreTwins c d = (c ≢ d) × (sha256 c ≡ sha256 d)
+abbrev pub Collide : List ℕ → List ℕ → Type 0
+Collide c d = (c ≢ d) × (sha256 c ≡ sha256 d)
 
 -- The audit's verdict on the material and the hand-ins is that all is clean.
 abbrev pub IsClean : Material → List ℕ → Type 0
@@ -36,4 +36,4 @@ abbrev pub ServedIsLatest : Type 0
 ServedIsLatest = (m : Material) (o : GivenEpoch) (bytes : List ℕ) (hand_ins : List Envelope) (request : GetRequest) (reply content : List ℕ) (x : Accepted)
     → accept_of m.key (Get request) reply ≡ Ok x → request.epoch ≡ m.epoch → 0 < x.attestation.version
     → given_of m ≡ Ok o → hand_ins_of bytes ≡ Ok hand_ins → Contains hand_ins x.envelope → IsClean m bytes
-    → sha256 content ≡ (latest_there o x.attestation).content → (content ≡ x.content) ⊎ AreTwins content x.content
+    → sha256 content ≡ (latest_there o x.attestation).content → (content ≡ x.content) ⊎ Collide content x.content

@@ -43,7 +43,7 @@ impl Model for Closer {
 
 impl Closer {
     /// A closer in epoch 1. `store` is SHA-256 of the store's key, `leaves` the number of all its leaves,
-    /// and the last `closings` of them are for closings. It takes no memory.
+    /// and the last `closings` of them, no more than all, are for closings. It takes no memory.
     pub fn new(alloc: Global, store: [u8; 32], leaves: u32, closings: u32) -> Closer
         requires { closings ≤ leaves }
         ensures { result ≡ opening store leaves closings }
@@ -91,7 +91,8 @@ impl Closer {
         Ok(())
     }
 
-    /// Takes the part of the next shard. The sixteenth makes it `Full`. It takes no memory.
+    /// Takes the part of the next shard, in `Half`: the part is of its epoch and of the shard `taken`. The
+    /// sixteenth makes it `Full`. It takes no memory.
     pub fn take(&mut self, part: FrozenPart)
         requires { IsNextPart self.old (part_view part) }
         ensures { self.new ≡ after_take self.old (part_view part) }
@@ -109,8 +110,8 @@ impl Closer {
         };
     }
 
-    /// Makes the closing's text, the table and the log of the epoch, under the families list's text, and
-    /// keeps the seal. Where memory is wanted it stays `Full`, and a later call gives the same.
+    /// Makes, in `Full`, the closing's text, the table and the log of the epoch, under the families list's
+    /// text, and keeps the seal. Where memory is wanted it stays `Full`, and a later call gives the same.
     pub fn seal(&mut self, alloc: Global, families: &[u8]) -> Result<(), OutOfMemory>
         requires { IsFull self.old.phase }
         ensures sealed { OnOk result (self.new ≡ after_seal self.old families.now) }
@@ -134,7 +135,7 @@ impl Closer {
         Ok(())
     }
 
-    /// What was sealed.
+    /// What was sealed, in `Sealed`.
     pub fn sealed(&self) -> &SealedText
         requires { IsSealed self.now.phase }
         ensures { self.now.sealed ≡ Some result.now }
@@ -145,7 +146,7 @@ impl Closer {
         }
     }
 
-    /// Goes on to the next epoch. It takes no memory.
+    /// Goes on from `Sealed` to the next epoch. It takes no memory.
     pub fn published(&mut self)
         requires { IsSealed self.old.phase }
         ensures { self.new ≡ after_publish self.old }

@@ -37,7 +37,8 @@ impl Core {
     /// A store with 65,536 pages in each shard, before any event.
     ///
     /// `store` is SHA-256 of its key, `families` the text of its families list, and the key has
-    /// `attestations` leaves for attestations and after them `closings` for closings.
+    /// `attestations` leaves for attestations and after them `closings` for closings, at most 2^32
+    /// together. `OutOfMemory` where its lists can't be had.
     pub fn new(
         alloc: Global,
         store: [u8; 32],
@@ -70,7 +71,8 @@ impl Core {
     }
 
     /// Takes an event: answers it and changes the state by the step's definition. Where memory is
-    /// wanted, all stays as it was.
+    /// wanted, all stays as it was. The event is admissible: a call names this store, fits its fields
+    /// and, at a put, has a writer's signature; a shard is below 16, an epoch at least 1.
     pub fn step(&mut self, alloc: Global, event: Event) -> Result<Answer, OutOfMemory>
         requires { Admissible self.old.store event }
         ensures stepped { IfOk result (λ answer. (answer, self.new.state) ≡ step self.old.store self.old.state event) }

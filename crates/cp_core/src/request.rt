@@ -12,8 +12,11 @@ use cp_statements::{GetRequest, PutRequest};
 pub enum Request {
     /// A put.
     Put {
+        /// What is put.
         request: PutRequest,
+        /// The writer's, on the request's text; fewer than 2^32 bytes.
         signature: Bytes,
+        /// At most 65,536 bytes.
         content: Bytes,
     },
     /// A get.

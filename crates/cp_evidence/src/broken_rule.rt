@@ -11,12 +11,15 @@ use cp_statements::Malformed;
 /// A rule that a block's segment is to break, between two tables and under a families list.
 #[derive(Drop)]
 pub struct BrokenRule<'a> {
+    /// The block's number.
     pub block: u64,
     /// The rule, and where it is broken.
     pub fault: Fault,
+    /// The two closings and their tables.
     pub given: Given<'a>,
     /// The bytes of the families list that the closing names.
     pub families: &'a [u8],
+    /// The block's segment between them.
     pub segment: Segment<'a>,
 }
 

@@ -7,7 +7,9 @@ use cp_statements::Envelope;
 /// A closing and the bytes that are to be its table.
 #[derive(Clone, Copy, Debug, PartialEq, Eq)]
 pub struct ClosingTable<'a> {
+    /// The closing's envelope.
     pub closing: Envelope<'a>,
+    /// The table's bytes.
     pub table: &'a [u8],
 }
 

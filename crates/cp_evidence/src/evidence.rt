@@ -18,7 +18,8 @@ pub enum Evidence<'a> {
     K3(Two<'a>),
     /// Kind 4: a table that isn't well formed for its closing.
     K4(ClosingTable<'a>),
-    /// Kind 5: a closing whose link isn't to the closing before, the second one.
+    /// Kind 5: a closing, and the closing before that its link isn't to; in epoch 1 an empty envelope,
+    /// and a link that isn't zero.
     K5(Two<'a>),
     /// Kind 6: a block that went back.
     K6(WentBack<'a>),

@@ -10,8 +10,12 @@ use cp_statements::Envelope;
 /// block's segment between them.
 #[derive(Drop)]
 pub struct Lost<'a> {
+    /// The two closings and their tables.
     pub given: Given<'a>,
+    /// The attestation's envelope.
     pub attestation: Envelope<'a>,
+    /// The block's segment between them. The audit leaves it empty where the attestation is outside the
+    /// counts.
     pub segment: Segment<'a>,
 }
 

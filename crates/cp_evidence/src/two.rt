@@ -7,7 +7,9 @@ use cp_statements::Envelope;
 /// Two signed texts, which contradict each other or the closings that they are.
 #[derive(Clone, Copy, Debug, PartialEq, Eq)]
 pub struct Two<'a> {
+    /// The first; at kind 5 the closing whose link is wrong.
     pub x: Envelope<'a>,
+    /// The second; at kind 5 the closing before, empty in epoch 1.
     pub y: Envelope<'a>,
 }
 

@@ -7,7 +7,9 @@ use cp_bytes::{Cut, Short};
 /// A block whose row in an epoch's table is to have gone back behind its row in the table before.
 #[derive(Clone, Copy, Debug, PartialEq, Eq)]
 pub struct WentBack<'a> {
+    /// The block's number.
     pub block: u64,
+    /// The two closings and their tables.
     pub given: Given<'a>,
 }
 

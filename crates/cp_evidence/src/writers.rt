@@ -13,6 +13,7 @@ use cp_bytes::OutOfMemory;
 use cp_statements::Envelope;
 
 /// Kind 1: two attestations of one position of a block.
+/// Appends it to `out`; `OutOfMemory` leaves `out` as it was.
 #[tactic(auto, unfolding(crate::specs::Evidence::evidence_text, crate::specs::Evidence::two_text, cp_statements::specs::Envelope::envelope_text))]
 pub fn write_k1(x: &Envelope, y: &Envelope, out: &mut Vec<u8>) -> Result<(), OutOfMemory>
     ensures written { OnOk result (Appends out.old.items out.new.items (K1 (two (envelope_view x.now) (envelope_view y.now)))) }
@@ -28,6 +29,7 @@ pub fn write_k1(x: &Envelope, y: &Envelope, out: &mut Vec<u8>) -> Result<(), Out
 }
 
 /// Kind 2: two texts under one leaf.
+/// Appends it to `out`; `OutOfMemory` leaves `out` as it was.
 #[tactic(auto, unfolding(crate::specs::Evidence::evidence_text, crate::specs::Evidence::two_text, cp_statements::specs::Envelope::envelope_text))]
 pub fn write_k2(x: &Envelope, y: &Envelope, out: &mut Vec<u8>) -> Result<(), OutOfMemory>
     ensures written { OnOk result (Appends out.old.items out.new.items (K2 (two (envelope_view x.now) (envelope_view y.now)))) }
@@ -43,6 +45,7 @@ pub fn write_k2(x: &Envelope, y: &Envelope, out: &mut Vec<u8>) -> Result<(), Out
 }
 
 /// Kind 3: two closings of one epoch.
+/// Appends it to `out`; `OutOfMemory` leaves `out` as it was.
 #[tactic(auto, unfolding(crate::specs::Evidence::evidence_text, crate::specs::Evidence::two_text, cp_statements::specs::Envelope::envelope_text))]
 pub fn write_k3(x: &Envelope, y: &Envelope, out: &mut Vec<u8>) -> Result<(), OutOfMemory>
     ensures written { OnOk result (Appends out.old.items out.new.items (K3 (two (envelope_view x.now) (envelope_view y.now)))) }
@@ -58,6 +61,7 @@ pub fn write_k3(x: &Envelope, y: &Envelope, out: &mut Vec<u8>) -> Result<(), Out
 }
 
 /// Kind 4: the closing `x` and its table `t`, which isn't well formed.
+/// Appends it to `out`; `OutOfMemory` leaves `out` as it was.
 #[tactic(auto, unfolding(crate::specs::Evidence::evidence_text, crate::specs::Evidence::closing_table_text, cp_statements::specs::Envelope::envelope_text))]
 pub fn write_k4(x: &Envelope, t: &[u8], out: &mut Vec<u8>) -> Result<(), OutOfMemory>
     ensures written { OnOk result (Appends out.old.items out.new.items (K4 (record { closing = envelope_view x.now; table = t.now }))) }
@@ -67,6 +71,7 @@ pub fn write_k4(x: &Envelope, t: &[u8], out: &mut Vec<u8>) -> Result<(), OutOfMe
 }
 
 /// Kind 5: the closing `x`, whose link isn't to `y`, the closing before.
+/// Appends it to `out`; `OutOfMemory` leaves `out` as it was.
 #[tactic(auto, unfolding(crate::specs::Evidence::evidence_text, crate::specs::Evidence::two_text, cp_statements::specs::Envelope::envelope_text))]
 pub fn write_k5(x: &Envelope, y: &Envelope, out: &mut Vec<u8>) -> Result<(), OutOfMemory>
     ensures written { OnOk result (Appends out.old.items out.new.items (K5 (two (envelope_view x.now) (envelope_view y.now)))) }
@@ -82,6 +87,7 @@ pub fn write_k5(x: &Envelope, y: &Envelope, out: &mut Vec<u8>) -> Result<(), Out
 }
 
 /// Kind 6: the block went back from the table `s` of the closing `y` to the table `t` of `x`.
+/// Appends it to `out`; `OutOfMemory` leaves `out` as it was.
 #[tactic(auto, unfolding(crate::specs::Evidence::evidence_text, crate::specs::Evidence::went_back_text, crate::specs::Evidence::given_text, cp_statements::specs::Envelope::envelope_text))]
 pub fn write_k6<'a>(
     block: u64,
@@ -107,6 +113,7 @@ pub fn write_k6<'a>(
 /// Kind 7: the segment `g` of the block breaks the rule, a number of 1 to 9, at these places, under
 /// the families list `f` and in the frame of the closings and tables. `g` is to be a segment's bytes,
 /// its number of texts in front.
+/// Appends it to `out`; `OutOfMemory` leaves `out` as it was.
 #[tactic(auto, unfolding(crate::specs::Evidence::evidence_text, crate::specs::Evidence::broken_rule_text, crate::specs::Evidence::given_text, cp_statements::specs::Envelope::envelope_text))]
 pub fn write_k7<'a>(
     block: u64,
@@ -142,6 +149,7 @@ pub fn write_k7<'a>(
 
 /// Kind 8: the attestation `a` is outside the counts of its block, or doesn't stand in the segment `g`.
 /// `g` is to be a segment's bytes, its number of texts in front.
+/// Appends it to `out`; `OutOfMemory` leaves `out` as it was.
 #[tactic(auto, unfolding(crate::specs::Evidence::evidence_text, crate::specs::Evidence::lost_text, crate::specs::Evidence::given_text, cp_statements::specs::Envelope::envelope_text))]
 pub fn write_k8<'a>(
     x: &Envelope<'a>,
@@ -179,6 +187,7 @@ pub fn write_k8<'a>(
 }
 
 /// Kind 9: the get attestation `a`, whose head is wrong.
+/// Appends it to `out`; `OutOfMemory` leaves `out` as it was.
 #[tactic(auto, unfolding(crate::specs::Evidence::evidence_text, cp_statements::specs::Envelope::envelope_text))]
 pub fn write_k9(a: &Envelope, out: &mut Vec<u8>) -> Result<(), OutOfMemory>
     ensures written { OnOk result (Appends out.old.items out.new.items (K9 (envelope_view a.now))) }
@@ -188,6 +197,7 @@ pub fn write_k9(a: &Envelope, out: &mut Vec<u8>) -> Result<(), OutOfMemory>
 }
 
 /// Kind 10: the signed text `x`, which is no statement of the store.
+/// Appends it to `out`; `OutOfMemory` leaves `out` as it was.
 #[tactic(auto, unfolding(crate::specs::Evidence::evidence_text, cp_statements::specs::Envelope::envelope_text))]
 pub fn write_k10(x: &Envelope, out: &mut Vec<u8>) -> Result<(), OutOfMemory>
     ensures written { OnOk result (Appends out.old.items out.new.items (K10 (envelope_view x.now))) }

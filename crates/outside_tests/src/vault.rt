@@ -1,4 +1,4 @@
-//! What no clause says: worked rows, a fault at each call of the disk, and a crash at each moment.
+//! What no clause says: answers worked out by hand, a fault at each call of the disk, and a crash at each moment.
 use cp_outside::MemDisk;
 use key_vault::{LoadFault, Refused, Vault, VaultFault};
 use std::test::Fail;
