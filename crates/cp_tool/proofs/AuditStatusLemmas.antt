@@ -19,12 +19,12 @@ use Rattle.cp_guilt.proofs.HonestLemmas.{honest_clean}
 use Rattle.cp_guilt.proofs.OwnLemmas.{own_clean}
 use Rattle.cp_tool.specs.AuditRuns.{AnswerEnds, AuditEnds, Sources, answered, files_in, sources_of, verdict_of}
 use Rattle.cp_tool.specs.AuditStatus.{AuditStatus, IsHonest, IsOwn, Readable}
-use Rattle.cp_tool.specs.AuditWords.{AuditWords}
-use Rattle.cp_tool.specs.Commands.{Command}
-use Rattle.cp_tool.specs.Commands.Command.{Audit}
-use Rattle.cp_tool.specs.Endings.{Outcome, bad_key}
+use Rattle.cp_commands.specs.AuditWords.{AuditWords}
+use Rattle.cp_commands.specs.Commands.{Command}
+use Rattle.cp_commands.specs.Commands.Command.{Audit}
+use Rattle.cp_endings.specs.Endings.{Outcome, bad_key}
 use Rattle.cp_tool.specs.Folders.{Files}
-use Rattle.cp_tool.specs.Reports.{Reports}
+use Rattle.cp_endings.specs.Reports.{Reports}
 use Rattle.cp_tool.specs.PutRuns.{CommandEnds}
 use Rattle.cp_outside.specs.declared.disk.Disk as disk
 use Rattle.cp_tool.proofs.StatusLemmas.{reported, stopped}

@@ -14,18 +14,18 @@ use Rattle.cp_audit.specs.declared.verdict.Verdict.{Verdict}
 use Rattle.cp_audit.specs.declared.verdict.Verdict.TheVariants.{Clean, Guilty}
 use Rattle.cp_audit.specs.declared.what.What.{What}
 use Rattle.cp_tool.specs.AuditAnswers.{Answers, WritesEvidence}
-use Rattle.cp_tool.specs.AuditEndings.{clean}
+use Rattle.cp_endings.specs.AuditEndings.{clean}
 use Rattle.cp_tool.specs.AuditInputs.{ReadsSources, sources_view}
 use Rattle.cp_tool.specs.AuditRuns.{AnswerEnds, AuditEnds, Sources, sources_of, verdict_of}
-use Rattle.cp_tool.specs.AuditWords.{AuditWords}
-use Rattle.cp_tool.specs.Endings.{Outcome, no_memory}
+use Rattle.cp_commands.specs.AuditWords.{AuditWords}
+use Rattle.cp_endings.specs.Endings.{Outcome, no_memory}
 use Rattle.cp_tool.specs.Folders.{Files, KeepsAll, Stops}
-use Rattle.cp_tool.specs.View.{ending_view}
+use Rattle.cp_endings.specs.View.{ending_view}
 use Rattle.cp_tool.proofs.InputLemmas.{rose_before}
-use Rattle.cp_tool.specs.declared.audit_ending.AuditEnding.TheVariants as audit_ending
+use Rattle.cp_endings.specs.declared.audit_ending.AuditEnding.TheVariants as audit_ending
 use Rattle.cp_tool.specs.declared.audit_sources.Sources as code
-use Rattle.cp_tool.specs.declared.ending.Ending.{Ending}
-use Rattle.cp_tool.specs.declared.ending.Ending.TheVariants.{Audited, BadKey}
+use Rattle.cp_endings.specs.declared.ending.Ending.{Ending}
+use Rattle.cp_endings.specs.declared.ending.Ending.TheVariants.{Audited, BadKey}
 
 -- ---- the verdict
 

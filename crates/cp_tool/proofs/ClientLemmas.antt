@@ -23,17 +23,17 @@ use Rattle.cp_client.specs.Asking.{Asked, asked_of}
 use Rattle.cp_client.specs.Accepting.{Accepted, accept_of, read_or_refused, must, same_call, other_field, content_fits, head_fits}
 use Rattle.cp_client.specs.declared.refusals.ClientRefusal.{ClientRefusal}
 use Rattle.cp_client.specs.declared.refusals.ClientRefusal.TheVariants.{BadSignature, ContentMismatch, BadHead}
-use Rattle.cp_tool.specs.ClientWords.{PutWords, GetWords, AcceptWords}
-use Rattle.cp_tool.specs.Endings.{Outcome, bad_key, fault, no_memory}
-use Rattle.cp_tool.specs.ClientEndings.{asked_get}
+use Rattle.cp_commands.specs.ClientWords.{PutWords, GetWords, AcceptWords}
+use Rattle.cp_endings.specs.Endings.{Outcome, bad_key, fault, no_memory}
+use Rattle.cp_endings.specs.ClientEndings.{asked_get}
 use Rattle.cp_tool.specs.ClientInputs.{three_view, ReadsThree, JudgesPut, WritesEnds}
 use Rattle.cp_tool.specs.ClientRuns.{Three, Input, three_of, key_in, get_request, get_asked, GetEnds, AskGetEnds, asked_or_refused, accepted_or_refused, acceptance_of, accept_inputs, AcceptanceEnds, AcceptEnds}
 use Rattle.cp_tool.specs.Folders.{Files, input_of, Stops, KeepsAll, KeepsOthers}
 use Rattle.cp_tool.specs.Inputs.{ReadsInput}
 use Rattle.cp_tool.specs.PutRuns.{PutParts, put_parts, put_request, put_inputs, LeafEnds, PutEnds, AskPutEnds, DrawsLeaf}
 use Rattle.cp_tool.specs.Runs.{secret_in}
-use Rattle.cp_tool.specs.View.{ending_view}
-use Rattle.cp_tool.specs.declared.ending.Ending.{Ending}
+use Rattle.cp_endings.specs.View.{ending_view}
+use Rattle.cp_endings.specs.declared.ending.Ending.{Ending}
 use Rattle.cp_tool.specs.declared.three_inputs.ThreeFiles.{ThreeFiles}
 
 -- ---- three files

@@ -8,9 +8,9 @@ use Rattle.cp_client.specs.Asking.{Asked, asked_of}
 use Rattle.cp_client.specs.Accepting.{Accepted, accept_of}
 use Rattle.cp_client.specs.declared.refusals.ClientRefusal.{ClientRefusal}
 use Rattle.cp_client.specs.declared.refusals.ClientRefusal.TheVariants.{Malformed, BadSignature, OtherCall, ContentMismatch, BadHead}
-use Rattle.cp_tool.specs.ClientWords.{PutWords, GetWords, AcceptWords}
-use Rattle.cp_tool.specs.Endings.{Outcome, fault}
-use Rattle.cp_tool.specs.ClientEndings.{refused}
+use Rattle.cp_commands.specs.ClientWords.{PutWords, GetWords, AcceptWords}
+use Rattle.cp_endings.specs.Endings.{Outcome, fault}
+use Rattle.cp_endings.specs.ClientEndings.{refused}
 use Rattle.cp_tool.specs.ClientRuns.{Three, Input, three_of, key_in, get_asked, GetEnds, AskGetEnds, asked_or_refused, accepted_or_refused, acceptance_of, accept_inputs, AcceptanceEnds, AcceptEnds}
 use Rattle.cp_tool.specs.Folders.{Files, input_of, Stops, KeepsAll}
 use Rattle.cp_tool.specs.PutRuns.{PutParts, put_parts, put_inputs, LeafEnds, PutEnds, AskPutEnds, IsVaultRefusal}

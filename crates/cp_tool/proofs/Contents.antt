@@ -8,10 +8,10 @@ use Rattle.cp_outside.specs.Causes.{Rose}
 use Rattle.cp_outside.specs.WholeFiles.{ReadsWhole, OnFailed}
 use Rattle.cp_outside.specs.declared.whole_files.ReadWhole.{ReadWhole}
 use Rattle.cp_outside.specs.declared.whole_files.ReadWhole.TheVariants as whole
-use Rattle.cp_tool.specs.Endings.{too_long}
+use Rattle.cp_endings.specs.Endings.{too_long}
 use Rattle.cp_tool.specs.Runs.{input_of}
 use Rattle.cp_tool.specs.Inputs.{ReadsInput}
-use Rattle.cp_tool.specs.declared.ending.Ending.TheVariants.{TooLong, Fault, NoMemory}
+use Rattle.cp_endings.specs.declared.ending.Ending.TheVariants.{TooLong, Fault, NoMemory}
 
 -- a content of more than so many bytes, which is the file where the folder tells its files
 long_content : (tells : Bool) (file : Option (List ℕ)) (limit : ℕ) → (IsTrue tells → IsSomeAnd file (λ bytes. limit < length bytes))

@@ -12,9 +12,9 @@ use Rattle.key_vault.specs.Ranges.{Range}
 use Rattle.key_vault.specs.Slots.{opening, advanced, HasEither}
 use Rattle.key_vault.specs.declared.faults.LoadFault.{LoadFault}
 use Rattle.key_vault.specs.declared.faults.VaultFault.TheVariants as vault
-use Rattle.cp_tool.specs.ClientEndings.{over}
+use Rattle.cp_endings.specs.ClientEndings.{over}
 use Rattle.cp_tool.specs.ClientInputs.{OpensVault}
-use Rattle.cp_tool.specs.Endings.{Outcome, fault}
+use Rattle.cp_endings.specs.Endings.{Outcome, fault}
 use Rattle.cp_tool.specs.PutRuns.{number_before, leaf_after, next_leaf, made_from, IsMaking, IsDrawing, DrawsLeaf}
 
 -- a number, or an ending

@@ -16,14 +16,14 @@ use Rattle.cp_client.specs.declared.refusals.ClientRefusal.TheVariants.{Malforme
 use Rattle.cp_judge.specs.Judging.{judgement_of}
 use Rattle.cp_judge.specs.declared.judgement.Judgement.{Judgement}
 use Rattle.cp_judge.specs.declared.judgement.Judgement.TheVariants.{BadKey, Malformed, NotEvidence, Guilty}
-use Rattle.cp_tool.specs.ClientEndings.{refused}
+use Rattle.cp_endings.specs.ClientEndings.{refused}
 use Rattle.cp_tool.specs.ClientRuns.{Three, Input, three_of, key_in, get_asked, GetEnds, asked_or_refused, accepted_or_refused, acceptance_of, accept_inputs, AcceptanceEnds}
-use Rattle.cp_tool.specs.ClientWords.{PutWords, GetWords, AcceptWords}
-use Rattle.cp_tool.specs.Commands.{Command}
-use Rattle.cp_tool.specs.Commands.Command.{Judge, Verify, Keygen, AskPut, AskGet, Accept, Audit, Replay}
+use Rattle.cp_commands.specs.ClientWords.{PutWords, GetWords, AcceptWords}
+use Rattle.cp_commands.specs.Commands.{Command}
+use Rattle.cp_commands.specs.Commands.Command.{Judge, Verify, Keygen, AskPut, AskGet, Accept, Audit, Replay}
 use Rattle.cp_tool.proofs.AuditRefusals.{audit_4}
 use Rattle.cp_tool.proofs.ReplayRefusals.{replay_4}
-use Rattle.cp_tool.specs.Endings.{Outcome, judged, short_seed, fault}
+use Rattle.cp_endings.specs.Endings.{Outcome, judged, short_seed, fault}
 use Rattle.cp_tool.specs.PutRuns.{PutParts, put_parts, put_inputs, LeafEnds, PutEnds, AskPutEnds, CommandEnds, IsVaultRefusal}
 use Rattle.cp_tool.specs.Runs.{Files, input_of, ending_of, Stops, KeepsAll, judge_ending, verify_ending, verified, KeyEnds, key_made, secret_in, RunEnds}
 

@@ -4,11 +4,11 @@ use Rattle.std.specs.Global.{Vec}
 use Rattle.cp_outside.specs.Causes.{Rose}
 use Rattle.cp_judge.specs.Judging.{judgement_of}
 use Rattle.cp_judge.specs.declared.judgement.Judgement.{Judgement}
-use Rattle.cp_tool.specs.Endings.{Outcome, judged}
+use Rattle.cp_endings.specs.Endings.{Outcome, judged}
 use Rattle.cp_tool.specs.Runs.{Files, input_of, Stops, KeepsAll, JudgeEnds, VerifyEnds, judge_ending, verify_ending, verified}
 use Rattle.cp_tool.specs.Inputs.{ReadsInput, GivesInput}
-use Rattle.cp_tool.specs.View.{ending_view}
-use Rattle.cp_tool.specs.declared.ending.Ending.{Ending}
+use Rattle.cp_endings.specs.View.{ending_view}
+use Rattle.cp_endings.specs.declared.ending.Ending.{Ending}
 
 -- the count rose, also where it is looked at from an earlier moment
 pub rose_before : (a b c : ℕ) → a ≤ b → Rose b c → Rose a c

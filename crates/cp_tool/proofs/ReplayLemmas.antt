@@ -10,16 +10,16 @@ use Rattle.cp_replay.specs.Script.{script_of}
 use Rattle.cp_replay.specs.View.{outcome_view}
 use Rattle.cp_replay.specs.declared.line.Line.{Line}
 use Rattle.cp_replay.specs.declared.replayed.Replayed.{Replayed}
-use Rattle.cp_tool.specs.Endings.{Outcome, printed}
+use Rattle.cp_endings.specs.Endings.{Outcome, printed}
 use Rattle.cp_tool.specs.Folders.{Files, KeepsAll, Stops, input_of}
 use Rattle.cp_tool.specs.Inputs.{ReadsInput}
 use Rattle.cp_tool.specs.ReplayFiles.{StopsAt, WritesAll, writes_of, content_after}
 use Rattle.cp_tool.specs.ReplayInputs.{GivesReplay, GivesMade, MakesReplay, WritesReplay}
 use Rattle.cp_tool.specs.ReplayRuns.{ReplayEnds, WrittenEnds, making, replay_in, replay_made}
-use Rattle.cp_tool.specs.ReplayWords.{ReplayWords}
-use Rattle.cp_tool.specs.View.{ending_view}
-use Rattle.cp_tool.specs.declared.ending.Ending.{Ending}
-use Rattle.cp_tool.specs.declared.ending.Ending.TheVariants.{ShortSeed, Malformed}
+use Rattle.cp_commands.specs.ReplayWords.{ReplayWords}
+use Rattle.cp_endings.specs.View.{ending_view}
+use Rattle.cp_endings.specs.declared.ending.Ending.{Ending}
+use Rattle.cp_endings.specs.declared.ending.Ending.TheVariants.{ShortSeed, Malformed}
 use Rattle.cp_tool.proofs.InputLemmas.{rose_before}
 
 -- ---- the replay

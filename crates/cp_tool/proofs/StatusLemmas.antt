@@ -16,15 +16,15 @@ use Rattle.cp_outside.specs.declared.disk.Disk as disk
 use Rattle.cp_judge.specs.declared.judgement.Judgement.{Judgement}
 use Rattle.cp_judge.specs.declared.judgement.Judgement.TheVariants.{BadKey, Malformed, NotEvidence, Guilty}
 use Rattle.cp_judge.proofs.Guilt.{guilty}
-use Rattle.cp_tool.specs.Commands.{Command}
-use Rattle.cp_tool.specs.Commands.Command.{Judge, Verify, Keygen, AskPut, AskGet, Accept, Audit, Replay}
+use Rattle.cp_commands.specs.Commands.{Command}
+use Rattle.cp_commands.specs.Commands.Command.{Judge, Verify, Keygen, AskPut, AskGet, Accept, Audit, Replay}
 use Rattle.cp_tool.specs.PutRuns.{CommandEnds, IsAskPut}
 use Rattle.cp_tool.proofs.ClientStatus.{ask_put_not2, ask_get_not2, accept_not2}
 use Rattle.cp_tool.proofs.FaultLemmas.{command_4}
 use Rattle.cp_tool.proofs.AuditRefusals.{audit_not2}
 use Rattle.cp_tool.proofs.ReplayRefusals.{replay_not2}
-use Rattle.cp_tool.specs.Endings.{Outcome, judged, usage, short_seed, unprinted_status}
-use Rattle.cp_tool.specs.Reports.{Reports}
+use Rattle.cp_endings.specs.Endings.{Outcome, judged, usage, short_seed, unprinted_status}
+use Rattle.cp_endings.specs.Reports.{Reports}
 use Rattle.cp_tool.specs.Runs.{Files, RunEnds, JudgeEnds, KeyEnds, JudgeStatus, Stops, KeepsAll, input_of, ending_of, judge_ending, verify_ending, verified, key_made, secret_in}
 
 -- ---- no ending of a command but `usage` has the status 2

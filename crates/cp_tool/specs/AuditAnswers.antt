@@ -6,12 +6,12 @@ use Rattle.cp_evidence.specs.Evidence.{Evidence, evidence_of, evidence_text}
 use Rattle.cp_evidence.specs.Verdict as spec
 use Rattle.cp_audit.specs.declared.verdict.Verdict.{Verdict}
 use Rattle.cp_audit.specs.declared.verdict.Verdict.TheVariants.{Clean, Guilty}
-use Rattle.cp_tool.specs.AuditEndings.{guilt_of, guilty}
+use Rattle.cp_endings.specs.AuditEndings.{guilt_of, guilty}
 use Rattle.cp_tool.specs.AuditRuns.{Sources, verdict_of}
-use Rattle.cp_tool.specs.Endings.{Outcome, fault, no_memory}
+use Rattle.cp_endings.specs.Endings.{Outcome, fault, no_memory}
 use Rattle.cp_tool.specs.Folders.{Files, KeepsOthers}
-use Rattle.cp_tool.specs.View.{ending_view}
-use Rattle.cp_tool.specs.declared.ending.Ending.{Ending}
+use Rattle.cp_endings.specs.View.{ending_view}
+use Rattle.cp_endings.specs.declared.ending.Ending.{Ending}
 
 -- the bytes spell the evidence, and convict
 pub record Spells (key : List ℕ) (e : Evidence) (bytes : List ℕ) : Type 0 where

@@ -10,12 +10,13 @@ use Rattle.cp_evidence.specs.Evidence.{Evidence, evidence_text}
 use Rattle.cp_evidence.specs.Material.{Material}
 use Rattle.cp_evidence.specs.Verdict.{Verdict}
 use Rattle.cp_evidence.specs.Verdict.Verdict.{Clean, Guilty}
-use Rattle.cp_tool.specs.AuditEndings.{clean, guilt_of, guilty, not_given, malformed}
-use Rattle.cp_tool.specs.AuditWords.{AuditWords, epoch_file}
-use Rattle.cp_tool.specs.Endings.{Outcome, bad_key, fault}
+use Rattle.cp_endings.specs.AuditEndings.{clean, guilt_of, guilty, not_given, malformed}
+use Rattle.cp_commands.specs.AuditWords.{AuditWords}
+use Rattle.cp_endings.specs.EpochFiles.{epoch_file}
+use Rattle.cp_endings.specs.Endings.{Outcome, bad_key, fault}
 use Rattle.cp_tool.specs.Folders.{Files, input_of, Stops, KeepsAll, KeepsOthers}
-use Rattle.cp_tool.specs.declared.epoch_part.EpochPart.{EpochPart}
-use Rattle.cp_tool.specs.declared.epoch_part.EpochPart.TheVariants.{Families, Closing, Table, Log}
+use Rattle.cp_endings.specs.declared.epoch_part.EpochPart.{EpochPart}
+use Rattle.cp_endings.specs.declared.epoch_part.EpochPart.TheVariants.{Families, Closing, Table, Log}
 
 -- ---- the files that are read
 

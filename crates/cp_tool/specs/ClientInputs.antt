@@ -11,16 +11,16 @@ use Rattle.lms_tree.specs.PublicKey.{key_reads}
 use Rattle.cp_client.specs.Accepting as accepting
 use Rattle.cp_client.specs.View.{accepted_view}
 use Rattle.cp_client.specs.declared.accepted.Accepted.{Accepted}
-use Rattle.cp_tool.specs.ClientWords.{PutWords, AcceptWords}
-use Rattle.cp_tool.specs.ClientEndings.{accepted}
+use Rattle.cp_commands.specs.ClientWords.{PutWords, AcceptWords}
+use Rattle.cp_endings.specs.ClientEndings.{accepted}
 use Rattle.cp_tool.specs.ClientRuns as runs
 use Rattle.cp_tool.specs.ClientRuns.{three_of}
-use Rattle.cp_tool.specs.Endings.{Outcome, fault}
+use Rattle.cp_endings.specs.Endings.{Outcome, fault}
 use Rattle.cp_tool.specs.Folders.{Files, Stops, IsFile}
 use Rattle.cp_tool.specs.PutRuns.{number_before, put_parts, made_from, IsMaking, IsVaultRefusal}
-use Rattle.cp_tool.specs.View.{ending_view}
+use Rattle.cp_endings.specs.View.{ending_view}
 use Rattle.cp_tool.specs.declared.drawing.DrawnLeaf.{DrawnLeaf}
-use Rattle.cp_tool.specs.declared.ending.Ending.{Ending}
+use Rattle.cp_endings.specs.declared.ending.Ending.{Ending}
 use Rattle.cp_tool.specs.declared.three_inputs.Input.{Input}
 use Rattle.cp_tool.specs.declared.three_inputs.ThreeFiles.{ThreeFiles}
 

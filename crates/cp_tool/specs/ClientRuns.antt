@@ -11,9 +11,9 @@ use Rattle.cp_client.specs.Accepting.{Accepted, accept_of}
 use Rattle.cp_client.specs.declared.refusals.ClientRefusal.{ClientRefusal}
 use Rattle.cp_client.specs.declared.refusals.ClientRefusal.TheVariants.{Malformed}
 use Rattle.cp_tool.specs.Folders.{Files, input_of, Stops, KeepsAll, KeepsOthers, IsFile}
-use Rattle.cp_tool.specs.ClientWords.{CallWords, GetWords, AcceptWords}
-use Rattle.cp_tool.specs.Endings.{Outcome, bad_key, fault}
-use Rattle.cp_tool.specs.ClientEndings.{asked_get, accepted, refused}
+use Rattle.cp_commands.specs.ClientWords.{CallWords, GetWords, AcceptWords}
+use Rattle.cp_endings.specs.Endings.{Outcome, bad_key, fault}
+use Rattle.cp_endings.specs.ClientEndings.{asked_get, accepted, refused}
 
 -- the bytes, where they are an LMS public key
 abbrev pub key_in : List ℕ → Result (List ℕ) Outcome

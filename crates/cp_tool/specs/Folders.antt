@@ -1,7 +1,7 @@
 -- A folder as contracts see it, its input files, and where a command stops (this project's own).
 use Rattle.std.specs.Prelude.{ℕ, ◌≡◌, ◌≢◌, ◌⊎◌, Bool, List, length, Option, Some, None, Result, Ok, Err, nat_lt, if◌then◌else◌, IsTrue}
 use Rattle.cp_outside.specs.Causes.{Rose}
-use Rattle.cp_tool.specs.Endings.{Outcome, missing, too_long, fault, no_memory}
+use Rattle.cp_endings.specs.Endings.{Outcome, missing, too_long, fault, no_memory}
 
 -- a folder, as its contract sees it
 pub record Files : Type 0 where

@@ -4,10 +4,10 @@ use Rattle.std.specs.Global.{Vec}
 use Rattle.lms_ots.specs.declared.ots_type.OtsType.{OtsType}
 use Rattle.lms_tree.specs.declared.height.Height.{Height}
 use Rattle.lms_tree.specs.Secret.{public_of}
-use Rattle.cp_tool.specs.Endings.{short_seed, no_memory}
+use Rattle.cp_endings.specs.Endings.{short_seed, no_memory}
 use Rattle.cp_tool.specs.Runs.{input_of, Stops, secret_in}
-use Rattle.cp_tool.specs.View.{ending_view}
-use Rattle.cp_tool.specs.declared.ending.Ending.{Ending}
+use Rattle.cp_endings.specs.View.{ending_view}
+use Rattle.cp_endings.specs.declared.ending.Ending.{Ending}
 
 abbrev pub GivesInput : Option (List ℕ) → List ℕ → ℕ → ℕ → ℕ → Result (Vec ℕ) Ending → Type 0
 GivesInput content name limit before now (Ok bytes) = input_of content name limit ≡ Ok bytes.items

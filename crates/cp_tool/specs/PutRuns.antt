@@ -12,11 +12,11 @@ use Rattle.key_vault.specs.declared.faults.LoadFault.TheVariants.{DiskFault, Bla
 use Rattle.lms_tree.specs.Secret.{Secret, public_of, leaves_of}
 use Rattle.cp_statements.specs.PutRequest.{PutRequest}
 use Rattle.cp_client.specs.Asking.{put_body_text, signed_put}
-use Rattle.cp_tool.specs.ClientWords.{PutWords}
-use Rattle.cp_tool.specs.Commands.{Command}
-use Rattle.cp_tool.specs.Commands.Command.{AskPut}
-use Rattle.cp_tool.specs.Endings.{Outcome, short_seed, fault, no_memory}
-use Rattle.cp_tool.specs.ClientEndings.{asked_put, over, other_key, damaged}
+use Rattle.cp_commands.specs.ClientWords.{PutWords}
+use Rattle.cp_commands.specs.Commands.{Command}
+use Rattle.cp_commands.specs.Commands.Command.{AskPut}
+use Rattle.cp_endings.specs.Endings.{Outcome, short_seed, fault, no_memory}
+use Rattle.cp_endings.specs.ClientEndings.{asked_put, over, other_key, damaged}
 use Rattle.cp_tool.specs.ClientRuns.{Three, three_of, key_in}
 use Rattle.cp_tool.specs.Runs.{Files, Stops, KeepsAll, KeepsOthers, IsFile, RunEnds, secret_in}
 

@@ -2,9 +2,9 @@
 use Rattle.std.specs.Prelude.{ℕ, ◌+◌, ◌≡◌, ◌≢◌, List, [], ◌∷◌, ◌++◌, Option, Some, codes, bytes_eq, if◌then◌else◌, IsTrue}
 use Rattle.cp_replay.specs.Replay as replay
 use Rattle.cp_replay.specs.declared.epoch_files.EpochFiles.{EpochFiles}
-use Rattle.cp_tool.specs.AuditWords.{epoch_file}
+use Rattle.cp_endings.specs.EpochFiles.{epoch_file}
 use Rattle.cp_tool.specs.Folders.{Files}
-use Rattle.cp_tool.specs.declared.epoch_part.EpochPart.TheVariants.{Families, Closing, Table, Log}
+use Rattle.cp_endings.specs.declared.epoch_part.EpochPart.TheVariants.{Families, Closing, Table, Log}
 
 -- a file that is written: its name and its bytes
 pub record FileWrite : Type 0 where

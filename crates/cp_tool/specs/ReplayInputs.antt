@@ -6,13 +6,13 @@ use Rattle.cp_outside.specs.declared.failures.Failed.{Failed}
 use Rattle.cp_replay.specs.Replay as replay
 use Rattle.cp_replay.specs.View.{outcome_view}
 use Rattle.cp_replay.specs.declared.replayed.Replayed.{Replayed}
-use Rattle.cp_tool.specs.Endings.{Outcome, fault, no_memory}
+use Rattle.cp_endings.specs.Endings.{Outcome, fault, no_memory}
 use Rattle.cp_tool.specs.Folders.{Files, KeepsAll, Stops, IsFile}
 use Rattle.cp_tool.specs.ReplayFiles.{FileWrite, WritesAll, StopsAt, writes_of}
 use Rattle.cp_tool.specs.ReplayRuns.{replay_in, replay_made}
-use Rattle.cp_tool.specs.ReplayWords.{ReplayWords}
-use Rattle.cp_tool.specs.View.{ending_view}
-use Rattle.cp_tool.specs.declared.ending.Ending.{Ending}
+use Rattle.cp_commands.specs.ReplayWords.{ReplayWords}
+use Rattle.cp_endings.specs.View.{ending_view}
+use Rattle.cp_endings.specs.declared.ending.Ending.{Ending}
 
 -- the replay of these bytes, or how the command ends without one
 abbrev pub GivesReplay : ReplayWords → List ℕ → List ℕ → Result Replayed Ending → Type 0

@@ -6,10 +6,10 @@ use Rattle.cp_replay.specs.Replay as replay
 use Rattle.cp_replay.specs.Replay.{Making, replayed}
 use Rattle.cp_replay.specs.Script.{script_of}
 use Rattle.cp_replay.specs.declared.line.Line.{Line}
-use Rattle.cp_tool.specs.Endings.{Outcome, short_seed, malformed, printed, fault}
+use Rattle.cp_endings.specs.Endings.{Outcome, short_seed, malformed, printed, fault}
 use Rattle.cp_tool.specs.Folders.{Files, input_of, Stops, KeepsAll, IsFile}
 use Rattle.cp_tool.specs.ReplayFiles.{WritesAll, StopsAt, writes_of}
-use Rattle.cp_tool.specs.ReplayWords.{ReplayWords}
+use Rattle.cp_commands.specs.ReplayWords.{ReplayWords}
 
 -- what the store is made with
 abbrev pub making : ReplayWords → List ℕ → Making

@@ -9,13 +9,13 @@ use Rattle.lms_tree.specs.Verifying.{verifies}
 use Rattle.lms_tree.specs.Secret.{Secret, public_of}
 use Rattle.cp_evidence.specs.Conditions.{Convicts}
 use Rattle.cp_judge.specs.Judging.{judgement_of}
-use Rattle.cp_tool.specs.Commands.{Command}
-use Rattle.cp_tool.specs.Commands.Command.{Judge, Verify, Keygen, AskPut, AskGet, Accept, Audit, Replay}
+use Rattle.cp_commands.specs.Commands.{Command}
+use Rattle.cp_commands.specs.Commands.Command.{Judge, Verify, Keygen, AskPut, AskGet, Accept, Audit, Replay}
 use Rattle.cp_tool.specs.AuditRuns.{AuditEnds}
 use Rattle.cp_tool.specs.ReplayRuns.{ReplayEnds}
 use Rattle.cp_tool.specs.ClientRuns.{AskGetEnds, AcceptEnds}
 pub use Rattle.cp_tool.specs.Folders.{Files, input_of, ending_of, Stops, KeepsAll, KeepsOthers, IsFile}
-use Rattle.cp_tool.specs.Endings.{Outcome, usage, short_seed, bad_key, judged, valid, invalid, made, fault}
+use Rattle.cp_endings.specs.Endings.{Outcome, usage, short_seed, bad_key, judged, valid, invalid, made, fault}
 
 -- ---- judge: a key of 56 bytes, evidence of at most 512 MiB
 

@@ -2,15 +2,13 @@
 ghost use Rattle.std.specs.Prelude.{◌≡◌, ℕ, List};
 ghost use Rattle.cp_tool.specs.AuditInputs.{ReadsSource, ReadsSources};
 ghost use Rattle.cp_tool.specs.AuditRuns.{named, own, own_before};
-ghost use Rattle.cp_tool.specs.AuditView.{audit_words_view};
+ghost use Rattle.cp_commands.specs.View.{audit_words_view};
 ghost use Rattle.cp_tool.specs.Folders.{Files};
 
-use crate::audit_ending::AuditEnding;
-use crate::audit_words::AuditWords;
-use crate::ending::Ending;
-use crate::epoch_part::EpochPart;
 use crate::inputs::input;
 use crate::judging::KEY_LIMIT;
+use cp_commands::AuditWords;
+use cp_endings::{AuditEnding, Ending, EpochPart};
 use cp_outside::{Folder, ReadWhole, read_whole};
 use std::alloc::Global;
 

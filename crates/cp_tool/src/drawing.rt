@@ -5,8 +5,7 @@ ghost use Rattle.key_vault.specs.Vaults.{file_id, file_leaves, file_number, file
 ghost use Rattle.cp_tool.specs.PutRuns.{DrawsLeaf};
 ghost use Rattle.cp_tool.specs.ClientInputs.{OpensVault, number_answer, leaf_answer};
 
-use crate::client_ending::ClientEnding;
-use crate::ending::Ending;
+use cp_endings::{ClientEnding, Ending};
 use cp_outside::Disk;
 use key_vault::{LeafRange, LoadFault, VaultFault, VaultFile};
 

@@ -1,14 +1,14 @@
 //! The files that a replay writes.
 ghost use Rattle.std.specs.Prelude.{◌≡◌, ◌++◌, ◌∷◌, ◌+◌, ◌<◌, ◌^◌, [], IfOk, OnOk, map, length, string_bytes};
 ghost use Rattle.cp_replay.specs.View.{outcome_view};
-ghost use Rattle.cp_tool.specs.AuditWords.{epoch_file};
+ghost use Rattle.cp_endings.specs.EpochFiles.{epoch_file};
 ghost use Rattle.cp_tool.specs.Folders.{Files};
 ghost use Rattle.cp_tool.specs.ReplayFiles.{epoch_writes, epochs_writes, write_of, writes_of};
 ghost use Rattle.cp_tool.specs.ReplayInputs.{WritesFiles};
 ghost use Rattle.cp_tool.specs.ReplayView.{write_view};
 
-use crate::epoch_part::EpochPart;
 use cp_bytes::OutOfMemory;
+use cp_endings::EpochPart;
 use cp_outside::{Failed, Folder};
 use cp_replay::{EpochFiles, Replayed};
 use std::alloc::Global;

@@ -2,7 +2,7 @@
 ghost use Rattle.std.specs.Prelude.{◌≡◌, ℕ, List};
 ghost use Rattle.cp_tool.specs.Inputs.{ReadsInput};
 
-use crate::ending::Ending;
+use cp_endings::Ending;
 use cp_outside::{Folder, ReadWhole, read_whole};
 use std::alloc::Global;
 

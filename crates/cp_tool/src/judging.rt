@@ -1,9 +1,9 @@
 //! The command `judge`.
 ghost use Rattle.cp_tool.specs.Runs.{JudgeEnds, Files};
-ghost use Rattle.cp_tool.specs.View.{ending_view};
+ghost use Rattle.cp_endings.specs.View.{ending_view};
 
-use crate::ending::Ending;
 use crate::inputs::input;
+use cp_endings::Ending;
 use cp_judge::{Judgement, judge};
 use cp_outside::Folder;
 use std::alloc::Global;

@@ -3,10 +3,10 @@ ghost use Rattle.std.specs.Prelude.{◌≡◌, ◌+◌, ◌<◌, ◌≤◌, ℕ,
 ghost use Rattle.lms_tree.specs.Secret.{public_of};
 ghost use Rattle.cp_tool.specs.Inputs.{MakesKey};
 ghost use Rattle.cp_tool.specs.Runs.{KeygenEnds, Files, secret_in};
-ghost use Rattle.cp_tool.specs.View.{ending_view};
+ghost use Rattle.cp_endings.specs.View.{ending_view};
 
-use crate::ending::Ending;
 use crate::inputs::input;
+use cp_endings::Ending;
 use cp_outside::Folder;
 use lms_ots::OtsType;
 use lms_tree::{Height, PrivateKey};

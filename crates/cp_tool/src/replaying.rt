@@ -3,14 +3,14 @@ ghost use Rattle.std.specs.Prelude.{◌≡◌, ◌≤◌, ℕ, List, length};
 ghost use Rattle.cp_tool.specs.Folders.{Files};
 ghost use Rattle.cp_tool.specs.ReplayInputs.{GivesReplay, MakesReplay, WritesReplay};
 ghost use Rattle.cp_tool.specs.ReplayRuns.{ReplayEnds};
-ghost use Rattle.cp_tool.specs.ReplayView.{replay_words_view};
-ghost use Rattle.cp_tool.specs.View.{ending_view};
+ghost use Rattle.cp_commands.specs.View.{replay_words_view};
+ghost use Rattle.cp_endings.specs.View.{ending_view};
 
-use crate::ending::Ending;
 use crate::file_write::{FileWrite, write_files};
 use crate::inputs::input;
 use crate::keygen::{SEED_LENGTH, part};
-use crate::replay_words::ReplayWords;
+use cp_commands::ReplayWords;
+use cp_endings::Ending;
 use cp_outside::Folder;
 use cp_replay::{Replayed, Script, ScriptRefusal, replay};
 use std::alloc::Global;

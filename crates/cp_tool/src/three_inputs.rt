@@ -2,8 +2,8 @@
 ghost use Rattle.std.specs.Prelude.{◌≡◌, ℕ, List};
 ghost use Rattle.cp_tool.specs.ClientInputs.{ReadsThree, input_view};
 
-use crate::ending::Ending;
 use crate::inputs::input;
+use cp_endings::Ending;
 use cp_outside::Folder;
 use std::alloc::Global;
 

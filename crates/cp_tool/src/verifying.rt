@@ -1,11 +1,11 @@
 //! The command `verify`.
 ghost use Rattle.std.specs.Prelude.{◌≡◌};
 ghost use Rattle.cp_tool.specs.Runs.{VerifyEnds, Files, verified};
-ghost use Rattle.cp_tool.specs.View.{ending_view};
+ghost use Rattle.cp_endings.specs.View.{ending_view};
 
-use crate::ending::Ending;
 use crate::inputs::input;
 use crate::judging::KEY_LIMIT;
+use cp_endings::Ending;
 use cp_outside::Folder;
 use lms_tree::{PublicKey, verify};
 use std::alloc::Global;

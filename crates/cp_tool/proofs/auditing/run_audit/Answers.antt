@@ -2,9 +2,9 @@ use Rattle.std.proofs.Common.{◌≡◌, ℕ, List, Ok, subst}
 use Rattle.cp_audit.specs.declared.verdict.Verdict.TheVariants.{Guilty}
 use Rattle.cp_tool.specs.AuditAnswers.{Answers}
 use Rattle.cp_tool.specs.AuditInputs.{sources_view}
-use Rattle.cp_tool.specs.AuditView.{audit_words_view}
+use Rattle.cp_commands.specs.View.{audit_words_view}
 use Rattle.cp_tool.specs.Folders.{Files}
-use Rattle.cp_tool.specs.View.{ending_view}
+use Rattle.cp_endings.specs.View.{ending_view}
 use Rattle.cp_tool.proofs.AuditingLemmas.{audit_guilty}
 use Rattle.cp_tool.proofs.auditing.run_audit.Goals as goal
 

@@ -1,4 +1,4 @@
-use Rattle.cp_tool.specs.View.{ending_view}
+use Rattle.cp_endings.specs.View.{ending_view}
 use Rattle.cp_tool.proofs.DrawLemmas.{draw_unopened, draw_reserved, draw_over, draw_failed}
 use Rattle.cp_tool.proofs.drawing.draw_leaf.Goals as goal
 

@@ -1,7 +1,7 @@
 use Rattle.std.proofs.Common.{ℕ, List, subst}
 use Rattle.cp_tool.specs.Folders.{Files}
 use Rattle.cp_tool.specs.ReplayInputs.{GivesReplay}
-use Rattle.cp_tool.specs.ReplayView.{replay_words_view}
+use Rattle.cp_commands.specs.View.{replay_words_view}
 use Rattle.cp_tool.proofs.InputLemmas.{read_later}
 use Rattle.cp_tool.proofs.ReplayLemmas.{made_first, made_second, made_both}
 use Rattle.cp_tool.proofs.replaying.made.Goals as goal

@@ -1,6 +1,6 @@
 use Rattle.std.proofs.Common.{arith, ◌∙◌}
 use Rattle.std.proofs.lemmas.List.{take_all}
-use Rattle.cp_tool.specs.ReplayView.{replay_words_view}
+use Rattle.cp_commands.specs.View.{replay_words_view}
 use Rattle.cp_tool.proofs.ReplayLemmas.{done_with}
 use Rattle.cp_tool.proofs.replaying.replayed.Goals as goal
 

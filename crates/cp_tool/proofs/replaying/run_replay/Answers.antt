@@ -1,5 +1,5 @@
 use Rattle.cp_tool.specs.Folders.{Files}
-use Rattle.cp_tool.specs.ReplayView.{replay_words_view}
+use Rattle.cp_commands.specs.View.{replay_words_view}
 use Rattle.cp_tool.proofs.ReplayLemmas.{replay_unwritten}
 use Rattle.cp_tool.proofs.replaying.run_replay.Goals as goal
 

@@ -1,7 +1,7 @@
 use Rattle.std.proofs.Common.{map, string_bytes}
-use Rattle.cp_tool.specs.Commands.{command_of}
+use Rattle.cp_commands.specs.Commands.{command_of}
 use Rattle.cp_tool.specs.Folders.{Files}
-use Rattle.cp_tool.specs.View.{ending_view}
+use Rattle.cp_endings.specs.View.{ending_view}
 use Rattle.cp_tool.proofs.AuditStatusLemmas.{audit_status}
 use Rattle.cp_tool.proofs.StatusLemmas.{status_2, status_4}
 use Rattle.cp_tool.proofs.running.run.Goals as goal

@@ -1,0 +1,6 @@
+pub mod AuditWords
+pub mod ClientWords
+pub mod Commands
+pub mod Numbers
+pub mod ReplayWords
+pub mod View

@@ -1,0 +1,12 @@
+//! The commands of the program `cloudproof`, as the words of its command line spell them.
+#![tactic(auto)]
+
+mod audit_words;
+mod client_words;
+mod command;
+mod replay_words;
+
+pub use audit_words::AuditWords;
+pub use client_words::{AcceptWords, CallWords, GetWords, PutWords};
+pub use command::Command;
+pub use replay_words::ReplayWords;

@@ -1,0 +1,27 @@
+-- What a command printed, and what it answered. A sink is seen as the bytes that it tells to hold
+-- and its count of faults, before and after.
+use Rattle.std.specs.Prelude.{ℕ, ◌≡◌, ◌⊎◌, List, Option, Result, MatchResult}
+use Rattle.std.specs.Io.KnownBytes.{Appends}
+use Rattle.cp_outside.specs.Causes.{Rose, HasCause, AppendsPrefix}
+use Rattle.cp_outside.specs.declared.failures.Failed.{Failed}
+use Rattle.cp_endings.specs.Endings.{Outcome, line_of, unprinted_status}
+
+-- the bytes were written, or a prefix of them and the count rose
+pub record Puts (old new : Option (List ℕ)) (before now : ℕ) (result : Result (Unit {0}) Failed) (bytes : List ℕ) : Type 0 where
+  pub written : MatchResult result (λ _. Appends old new bytes) (λ _. AppendsPrefix old new bytes)
+  pub cause : HasCause before now result
+
+-- the whole line was written, and the status is the ending's
+pub record Prints (old new : Option (List ℕ)) (ending : Outcome) (status : ℕ) : Type 0 where
+  pub line : Appends old new (line_of ending)
+  pub answers : status ≡ ending.status
+
+-- the sink failed, and a prefix of the line was written
+pub record FailsToPrint (old new : Option (List ℕ)) (before now : ℕ) (ending : Outcome) (status : ℕ) : Type 0 where
+  pub cause : Rose before now
+  pub line : AppendsPrefix old new (line_of ending)
+  pub answers : status ≡ unprinted_status ending
+
+-- how an ending is reported
+abbrev pub Reports : Option (List ℕ) → Option (List ℕ) → ℕ → ℕ → Outcome → ℕ → Type 0
+Reports old new before now ending status = Prints old new ending status ⊎ FailsToPrint old new before now ending status

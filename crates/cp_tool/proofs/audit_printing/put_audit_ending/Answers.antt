@@ -1,4 +1,0 @@
-use Rattle.cp_tool.proofs.audit_printing.put_audit_ending.Goals as goal
-
-pub returns-in-Malformed : goal.returns-in-Malformed
-returns-in-Malformed g c = rw c.in-Malformed.is c.put_number.ensures
