@@ -4,9 +4,10 @@ ghost use Rattle.std.specs.Prelude.{◌≡◌, ◌<◌, ◌≤◌, length};
 
 use crate::commands::{disk, ends_with_vault, folder, push_part, put_file, signed, small_key};
 use cp_bytes::{digest, head};
-use cp_outside::{MemDisk, MemFolder};
+use cp_outside::{Disk, MemDisk, MemFolder};
 use cp_statements::{Attestation, Entry, Kind};
-use lms_tree::PrivateKey;
+use lms_ots::OtsType;
+use lms_tree::{Height, PrivateKey};
 use std::alloc::Global;
 use std::process::Abort;
 use std::test::Fail;
@@ -140,6 +141,43 @@ fn inputs_are_refused_before_a_leaf_is_reserved(rt: HostRuntime) -> Result<(), F
         ends_so(&rt, alloc, &mut files, &mut vault, line, *status, text)?;
     }
     ends_so(&rt, alloc, &mut files, &mut vault, PUT, 0, "asked leaf=0\n")
+}
+
+#[test]
+fn a_fault_of_the_vaults_disk_writes_no_body(rt: HostRuntime) -> Result<(), Fail> {
+    let alloc = rt.alloc();
+    let mut files = client_files(&rt, alloc)?;
+    // loading a blank disk makes two calls of it, formatting four, and reserving four
+    for call in 0..10u64 {
+        let mut vault = MemDisk::new(alloc, 1 << 16, Vec::from_slice(alloc, &[call])?)?;
+        ends_so(&rt, alloc, &mut files, &mut vault, PUT, 4, "fault\n")?;
+        assert!(rt; files.file("body").is_none(), "{call}");
+    }
+    let mut vault = MemDisk::new(alloc, 1 << 16, Vec::from_slice(alloc, &[10])?)?;
+    ends_so(&rt, alloc, &mut files, &mut vault, PUT, 0, "asked leaf=0\n")
+}
+
+#[test]
+fn a_vault_with_too_many_leaves_is_damaged(rt: HostRuntime) -> Result<(), Fail> {
+    let alloc = rt.alloc();
+    let mut files = client_files(&rt, alloc)?;
+    let mut vault = disk(alloc)?;
+    let key = PrivateKey::make_by(&rt, alloc, 4, [1; 32], [1; 16], Height::H5, OtsType::W8)?;
+    let id = digest(&key.public().bytes());
+    assert!(rt; vault.write_at(0, &id).is_ok());
+    assert!(rt; vault.write_at(32, &33u64.to_be_bytes()).is_ok());
+    assert!(rt; vault.write_at(128, &[0]).is_ok());
+    ends_so(
+        &rt,
+        alloc,
+        &mut files,
+        &mut vault,
+        PUT,
+        3,
+        "damaged reserved=33 leaves=32\n",
+    )?;
+    assert!(rt; files.file("body").is_none());
+    Ok(())
 }
 
 // What the store attests of a get of block 5 by client 2 with this nonce.

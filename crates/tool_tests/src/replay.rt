@@ -132,3 +132,38 @@ fn keeps_what_was_written_before_a_fault(rt: HostRuntime) -> Result<(), Fail> {
     assert!(rt; files.file("families-1").is_none());
     Ok(())
 }
+
+#[test]
+fn what_it_answered_is_accepted(rt: HostRuntime) -> Result<(), Fail> {
+    let alloc = rt.alloc();
+    let mut files = with_script(&rt, alloc, SCRIPT, Vec::new(alloc))?;
+    assert!(rt; ends(&rt, alloc, &mut files, WORDS, 0, PRINTED)?);
+    // the answer of the get: the third of three envelopes of 1,477 bytes
+    let mut envelope = Vec::new(alloc);
+    envelope.extend_from_slice(
+        files
+            .file("handins")
+            .and_then(|all| all.get(2954..4431))
+            .unwrap_or(b""),
+    )?;
+    assert_eq!(rt; envelope.len(), 1477);
+    let mut reply = Vec::from_slice(alloc, envelope.as_slice())?;
+    reply.extend_from_slice(b"blue")?;
+    put_file(&rt, &mut files, "reply", reply.as_slice());
+    let cases = [
+        (
+            "ask-get --store store.key --epoch 1 --block 5 --client 2 --nonce 1 --out asked",
+            0,
+            "asked\n",
+        ),
+        (
+            "accept --store store.key --request asked --reply reply --out envelope --content content",
+            0,
+            "accepted get position=2 version=2\n",
+        ),
+    ];
+    all_end(&rt, alloc, &mut files, &cases)?;
+    assert!(rt; files.file("content") == Some(b"blue".as_slice()));
+    assert!(rt; files.file("envelope") == Some(envelope.as_slice()));
+    Ok(())
+}
