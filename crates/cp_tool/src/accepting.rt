@@ -60,6 +60,7 @@ fn put_accepted<'a, F: Folder>(
         (record { tells = F.tells files.old; file = F.file files.old; faults = F.faults files.old })
         (record { tells = F.tells files.new; file = F.file files.new; faults = F.faults files.new }) (ending_view result) }
     ensures others { (name : List ℕ) → name ≢ words.now.out.now → name ≢ words.now.content.now → F.file files.new name ≡ F.file files.old name }
+    ensures tells { F.tells files.new ≡ F.tells files.old }
 {
     match files.write(words.out, envelope) {
         Ok(()) => match files.write(words.content, accepted.content) {
@@ -76,9 +77,10 @@ pub(crate) fn run_accept<'a, F: Folder>(
     files: &mut F,
     words: AcceptWords<'a>,
 ) -> Ending<'a>
-    ensures { AcceptEnds (accept_words_view words.entry)
+    ensures ends { AcceptEnds (accept_words_view words.entry)
         (record { tells = F.tells files.old; file = F.file files.old; faults = F.faults files.old })
         (record { tells = F.tells files.new; file = F.file files.new; faults = F.faults files.new }) (ending_view result) }
+    ensures tells { F.tells files.new ≡ F.tells files.old }
 {
     let store = Input {
         name: words.store,

@@ -106,6 +106,7 @@ fn put_asked<'a, F: Folder>(
         (record { tells = F.tells files.old; file = F.file files.old; faults = F.faults files.old })
         (record { tells = F.tells files.new; file = F.file files.new; faults = F.faults files.new }) (ending_view result) }
     ensures others { (other : List ℕ) → other ≢ out.now → F.file files.new other ≡ F.file files.old other }
+    ensures tells { F.tells files.new ≡ F.tells files.old }
 {
     let DrawnLeaf { leaf, mut range } = drawn;
     let body = match ask_put(alloc, key, &mut range, request, content) {
@@ -126,9 +127,10 @@ pub(crate) fn run_ask_put<'a, R: Threads + Sync, F: Folder, K: Disk>(
     vault: &mut K,
     words: PutWords<'a>,
 ) -> Ending<'a>
-    ensures { AskPutEnds K.Disk (put_words_view words.entry)
+    ensures ends { AskPutEnds K.Disk (put_words_view words.entry)
         (record { tells = F.tells files.old; file = F.file files.old; faults = F.faults files.old })
         (record { tells = F.tells files.new; file = F.file files.new; faults = F.faults files.new }) vault.old vault.new (ending_view result) }
+    ensures tells { F.tells files.new ≡ F.tells files.old }
 {
     let seed = Input {
         name: words.seed,
@@ -187,9 +189,10 @@ pub(crate) fn run_ask_get<'a, F: Folder>(
     files: &mut F,
     words: GetWords<'a>,
 ) -> Ending<'a>
-    ensures { AskGetEnds (get_words_view words.entry)
+    ensures ends { AskGetEnds (get_words_view words.entry)
         (record { tells = F.tells files.old; file = F.file files.old; faults = F.faults files.old })
         (record { tells = F.tells files.new; file = F.file files.new; faults = F.faults files.new }) (ending_view result) }
+    ensures tells { F.tells files.new ≡ F.tells files.old }
 {
     let store = match input(alloc, files, words.store, KEY_LIMIT) {
         Ok(store) => store,

@@ -104,9 +104,10 @@ impl Sources {
         files: &mut F,
         words: AuditWords<'a>,
     ) -> Result<Sources, Ending<'a>>
-        ensures { ReadsSources (audit_words_view words.entry)
+        ensures reads { ReadsSources (audit_words_view words.entry)
             (record { tells = F.tells files.old; file = F.file files.old; faults = F.faults files.old })
             (record { tells = F.tells files.new; file = F.file files.new; faults = F.faults files.new }) result }
+        ensures tells { F.tells files.new ≡ F.tells files.old }
     {
         let epoch = words.epoch;
         let key = named_file(alloc, files, words.key, KEY_LIMIT)?;

@@ -47,9 +47,10 @@ fn verdict<'a>(alloc: Global, sources: &Sources, epoch: u64) -> Result<Verdict, 
 
 // Writes the evidence, which spells what is named.
 fn write_evidence<'a, F: Folder>(files: &mut F, out: &'a str, evidence: &[u8]) -> Ending<'a>
-    ensures { (e : spec.Evidence) → evidence_of evidence.now ≡ Ok e → WritesEvidence e evidence.now out.entry.now
+    ensures writes { (e : spec.Evidence) → evidence_of evidence.now ≡ Ok e → WritesEvidence e evidence.now out.entry.now
         (record { tells = F.tells files.old; file = F.file files.old; faults = F.faults files.old })
         (record { tells = F.tells files.new; file = F.file files.new; faults = F.faults files.new }) (ending_view result) }
+    ensures tells { F.tells files.new ≡ F.tells files.old }
 {
     let Ok(read) = Evidence::read(evidence) else {
         return Ending::NoMemory;
@@ -68,9 +69,10 @@ pub(crate) fn run_audit<'a, F: Folder>(
     files: &mut F,
     words: AuditWords<'a>,
 ) -> Ending<'a>
-    ensures { AuditEnds (audit_words_view words.entry)
+    ensures ends { AuditEnds (audit_words_view words.entry)
         (record { tells = F.tells files.old; file = F.file files.old; faults = F.faults files.old })
         (record { tells = F.tells files.new; file = F.file files.new; faults = F.faults files.new }) (ending_view result) }
+    ensures tells { F.tells files.new ≡ F.tells files.old }
 {
     let sources = match Sources::read(alloc, files, words) {
         Ok(sources) => sources,

@@ -127,9 +127,10 @@ impl<'a> FileWrite<'a> {
 // Writes the files, one after another, up to one whose write fails.
 #[tactic(auto, using(crate::proofs::WriteLemmas::each_write))]
 pub(crate) fn write_files<F: Folder>(files: &mut F, writes: &[FileWrite<'_>]) -> Result<(), Failed>
-    ensures { WritesFiles (map write_view writes.now)
+    ensures writes { WritesFiles (map write_view writes.now)
         (record { tells = F.tells files.old; file = F.file files.old; faults = F.faults files.old })
         (record { tells = F.tells files.new; file = F.file files.new; faults = F.faults files.new }) result }
+    ensures tells { F.tells files.new ≡ F.tells files.old }
 {
     for write in writes {
         match files.write(write.name.as_str(), write.bytes) {

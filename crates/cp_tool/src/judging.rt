@@ -1,4 +1,5 @@
 //! The command `judge`.
+ghost use Rattle.std.specs.Prelude.{◌≡◌};
 ghost use Rattle.cp_tool.specs.Runs.{JudgeEnds, Files};
 ghost use Rattle.cp_endings.specs.View.{ending_view};
 
@@ -21,9 +22,10 @@ pub(crate) fn run_judge<'a, F: Folder>(
     key: &'a str,
     evidence: &'a str,
 ) -> Ending<'a>
-    ensures { JudgeEnds key.entry.now evidence.entry.now
+    ensures ends { JudgeEnds key.entry.now evidence.entry.now
         (record { tells = F.tells files.old; file = F.file files.old; faults = F.faults files.old })
         (record { tells = F.tells files.new; file = F.file files.new; faults = F.faults files.new }) (ending_view result) }
+    ensures tells { F.tells files.new ≡ F.tells files.old }
 {
     let key = match input(alloc, files, key, KEY_LIMIT) {
         Ok(key) => key,

@@ -80,9 +80,10 @@ pub(crate) fn run_keygen<'a, R: Threads + Sync, F: Folder>(
     ots: OtsType,
     out: &'a str,
 ) -> Ending<'a>
-    ensures { KeygenEnds seed.entry.now height ots out.entry.now
+    ensures ends { KeygenEnds seed.entry.now height ots out.entry.now
         (record { tells = F.tells files.old; file = F.file files.old; faults = F.faults files.old })
         (record { tells = F.tells files.new; file = F.file files.new; faults = F.faults files.new }) (ending_view result) }
+    ensures tells { F.tells files.new ≡ F.tells files.old }
 {
     let seed = match input(alloc, files, seed, SEED_LENGTH) {
         Ok(seed) => seed,

@@ -81,9 +81,10 @@ fn write_replay<'a, F: Folder>(
     files: &mut F,
     done: &Replayed,
 ) -> Result<(), Ending<'a>>
-    ensures { WritesReplay done.now
+    ensures writes { WritesReplay done.now
         (record { tells = F.tells files.old; file = F.file files.old; faults = F.faults files.old })
         (record { tells = F.tells files.new; file = F.file files.new; faults = F.faults files.new }) result }
+    ensures tells { F.tells files.new ≡ F.tells files.old }
 {
     let Ok(writes) = FileWrite::all(alloc, done) else {
         return Err(Ending::NoMemory);
@@ -100,9 +101,10 @@ pub(crate) fn run_replay<'a, F: Folder>(
     files: &mut F,
     words: ReplayWords<'a>,
 ) -> Ending<'a>
-    ensures { ReplayEnds (replay_words_view words.entry)
+    ensures ends { ReplayEnds (replay_words_view words.entry)
         (record { tells = F.tells files.old; file = F.file files.old; faults = F.faults files.old })
         (record { tells = F.tells files.new; file = F.file files.new; faults = F.faults files.new }) (ending_view result) }
+    ensures tells { F.tells files.new ≡ F.tells files.old }
 {
     let done = match made(alloc, files, &words) {
         Ok(done) => done,

@@ -33,9 +33,10 @@ fn done<'a, R: Threads + Sync, F: Folder, K: Disk>(
     files: &mut F,
     vault: &mut K,
 ) -> Ending<'a>
-    ensures { CommandEnds K.Disk (command_of (map string_bytes words.entry.now))
+    ensures ends { CommandEnds K.Disk (command_of (map string_bytes words.entry.now))
         (record { tells = F.tells files.old; file = F.file files.old; faults = F.faults files.old })
         (record { tells = F.tells files.new; file = F.file files.new; faults = F.faults files.new }) vault.old vault.new (ending_view result) }
+    ensures tells { F.tells files.new ≡ F.tells files.old }
 {
     match Command::read(words) {
         None => Ending::Usage,
@@ -86,6 +87,10 @@ pub fn run<R: Threads + Sync, F: Folder, K: Disk, S: Sink>(
     // 2 comes exactly where the words are no command's, unless the line can't be written.
     ensures usage { result ≡ 2 → command_of (map string_bytes words.now) ≡ None }
     ensures no_command { command_of (map string_bytes words.now) ≡ None → (result ≡ 2) ⊎ ((result ≡ 4) × Rose (S.write_faults out.old) (S.write_faults out.new)) }
+
+    // The folder tells its files afterwards as before, so that what one command left is what the next one
+    // finds.
+    ensures tells { F.tells files.new ≡ F.tells files.old }
 
     // No command but `ask-put` touches the vault's disk.
     ensures untouched { IsAskPut (command_of (map string_bytes words.now)) ⊎ (vault.new ≡ vault.old) }

@@ -38,9 +38,10 @@ pub(crate) fn run_verify<'a, F: Folder>(
     text: &'a str,
     signature: &'a str,
 ) -> Ending<'a>
-    ensures { VerifyEnds key.entry.now text.entry.now signature.entry.now
+    ensures ends { VerifyEnds key.entry.now text.entry.now signature.entry.now
         (record { tells = F.tells files.old; file = F.file files.old; faults = F.faults files.old })
         (record { tells = F.tells files.new; file = F.file files.new; faults = F.faults files.new }) (ending_view result) }
+    ensures tells { F.tells files.new ≡ F.tells files.old }
 {
     let key = match input(alloc, files, key, KEY_LIMIT) {
         Ok(key) => key,

@@ -6,13 +6,13 @@ use Rattle.cp_tool.specs.Folders.{Files}
 use Rattle.cp_tool.proofs.ClientLemmas.{accept_unread, accept_written}
 use Rattle.cp_tool.proofs.accepting.run_accept.Goals as goal
 
-pub returns-in-Err : goal.returns-in-Err
-returns-in-Err g c =
+pub returns-in-Err-clause-ends : goal.returns-in-Err-clause-ends
+returns-in-Err-clause-ends g c =
     let old : Files = record { tells = g.F.Folder.tells c.args.files.now; file = g.F.Folder.file c.args.files.now; faults = g.F.Folder.faults c.args.files.now } in
     accept_unread (accept_words_view c.args.words) old _ c.in-Err.ending c.in-Err.ensures.reads c.three_inputs.ensures.kept
 
-pub returns : goal.returns
-returns g c =
+pub returns-clause-ends : goal.returns-clause-ends
+returns-clause-ends g c =
     let old : Files = record { tells = g.F.Folder.tells c.args.files.now; file = g.F.Folder.file c.args.files.now; faults = g.F.Folder.faults c.args.files.now } in
     let mid : Files = record { tells = g.F.Folder.tells c.three_inputs.new.files; file = g.F.Folder.file c.three_inputs.new.files; faults = g.F.Folder.faults c.three_inputs.new.files } in
     let third : c.as_slice.result.now ≡ c.in-Ok.inputs.third.items = c.as_slice.ensures.value in

@@ -8,23 +8,23 @@ use Rattle.cp_tool.specs.PutRuns.{PutParts, put_request}
 use Rattle.cp_tool.proofs.ClientLemmas.{parts_are, put_unread, put_refused, put_unmade, put_undrawn, put_drawn}
 use Rattle.cp_tool.proofs.asking.run_ask_put.Goals as goal
 
-pub returns-in-Err : goal.returns-in-Err
-returns-in-Err g c =
+pub returns-in-Err-clause-ends : goal.returns-in-Err-clause-ends
+returns-in-Err-clause-ends g c =
     let old : Files = record { tells = g.F.Folder.tells c.args.files.now; file = g.F.Folder.file c.args.files.now; faults = g.F.Folder.faults c.args.files.now } in
     put_unread g.K.Disk (put_words_view c.args.words) old _ c.args.vault.now c.in-Err.ending c.in-Err.ensures.reads c.three_inputs.ensures.kept
 
-pub returns-in-Err-judged : goal.returns-in-Err-judged
-returns-in-Err-judged g c =
+pub returns-in-Err-judged-clause-ends : goal.returns-in-Err-judged-clause-ends
+returns-in-Err-judged-clause-ends g c =
     let old : Files = record { tells = g.F.Folder.tells c.args.files.now; file = g.F.Folder.file c.args.files.now; faults = g.F.Folder.faults c.args.files.now } in
     put_refused g.K.Disk (put_words_view c.args.words) old _ c.args.vault.now c.in-Ok.inputs c.in-Err-judged.ending c.in-Ok.ensures.reads c.in-Err-judged.ensures c.three_inputs.ensures.kept
 
-pub returns-in_default : goal.returns-in_default
-returns-in_default g c =
+pub returns-in_default-clause-ends : goal.returns-in_default-clause-ends
+returns-in_default-clause-ends g c =
     let old : Files = record { tells = g.F.Folder.tells c.args.files.now; file = g.F.Folder.file c.args.files.now; faults = g.F.Folder.faults c.args.files.now } in
     put_unmade g.K.Disk (put_words_view c.args.words) old _ c.args.vault.now c.in-Ok.inputs c.in-Ok.ensures.reads c.three_inputs.ensures.kept
 
-pub returns-in-Err-draw_leaf : goal.returns-in-Err-draw_leaf
-returns-in-Err-draw_leaf g c =
+pub returns-in-Err-draw_leaf-clause-ends : goal.returns-in-Err-draw_leaf-clause-ends
+returns-in-Err-draw_leaf-clause-ends g c =
     let old : Files = record { tells = g.F.Folder.tells c.args.files.now; file = g.F.Folder.file c.args.files.now; faults = g.F.Folder.faults c.args.files.now } in
     let mid : Files = record { tells = g.F.Folder.tells c.three_inputs.new.files; file = g.F.Folder.file c.three_inputs.new.files; faults = g.F.Folder.faults c.three_inputs.new.files } in
     let parts : PutParts = record { secret = c.in-Some.key; request = put_request (put_words_view c.args.words) c.in-Ok.inputs.second.items c.in-Ok.inputs.third.items; content = c.in-Ok.inputs.third.items } in
@@ -33,8 +33,8 @@ returns-in-Err-draw_leaf g c =
     c.in-Ok-judged.ensures.0 c.in-Ok-judged.ensures.1 c.as_slice.ensures.value c.in-Some.ensures refl refl refl)
     (c.digest-id.ensures ∙ ap (λ (l : List ℕ). sha256 l) (c.bytes.ensures.bytes ∙ c.public.ensures)) (c.from.ensures ∙ c.leaves.ensures) c.in-Err-draw_leaf.ending c.in-Err-draw_leaf.ensures.draws c.three_inputs.ensures.kept
 
-pub returns : goal.returns
-returns g c =
+pub returns-clause-ends : goal.returns-clause-ends
+returns-clause-ends g c =
     let old : Files = record { tells = g.F.Folder.tells c.args.files.now; file = g.F.Folder.file c.args.files.now; faults = g.F.Folder.faults c.args.files.now } in
     let mid : Files = record { tells = g.F.Folder.tells c.three_inputs.new.files; file = g.F.Folder.file c.three_inputs.new.files; faults = g.F.Folder.faults c.three_inputs.new.files } in
     let parts : PutParts = record { secret = c.in-Some.key; request = put_request_view c.put_request-request.result; content = c.as_slice-content.result.now } in

@@ -6,8 +6,8 @@ use Rattle.cp_tool.proofs.file_write.write_files.Goals as goal
 pub loop-write-init : goal.loop-write-init
 loop-write-init g c = wrote_first c.args.writes.now (record { tells = g.F.Folder.tells c.args.files.now; file = g.F.Folder.file c.args.files.now; faults = g.F.Folder.faults c.args.files.now })
 
-pub returns-in-Err : goal.returns-in-Err
-returns-in-Err g c =
+pub returns-in-Err-clause-writes : goal.returns-in-Err-clause-writes
+returns-in-Err-clause-writes g c =
     let old : Files = record { tells = g.F.Folder.tells c.args.files.now; file = g.F.Folder.file c.args.files.now; faults = g.F.Folder.faults c.args.files.now } in
     let mid : Files = record { tells = g.F.Folder.tells c.loop-write.files; file = g.F.Folder.file c.loop-write.files; faults = g.F.Folder.faults c.loop-write.files } in
     let new : Files = record { tells = g.F.Folder.tells c.write.new.self; file = g.F.Folder.file c.write.new.self; faults = g.F.Folder.faults c.write.new.self } in

@@ -4,19 +4,19 @@ use Rattle.cp_tool.specs.Runs.{Files}
 use Rattle.cp_tool.proofs.InputLemmas.{read_later, judge_first, judge_second, judge_both}
 use Rattle.cp_tool.proofs.judging.run_judge.Goals as goal
 
-pub returns-in-Err : goal.returns-in-Err
-returns-in-Err g c = judge_first _ _ _ _ _ c.in-Err.ensures.reads c.input.ensures.kept
+pub returns-in-Err-clause-ends : goal.returns-in-Err-clause-ends
+returns-in-Err-clause-ends g c = judge_first _ _ _ _ _ c.in-Err.ensures.reads c.input.ensures.kept
 
-pub returns-in-Err-input : goal.returns-in-Err-input
-returns-in-Err-input g c =
+pub returns-in-Err-input-clause-ends : goal.returns-in-Err-input-clause-ends
+returns-in-Err-input-clause-ends g c =
     let old : Files = record { tells = g.F.Folder.tells c.args.files.now; file = g.F.Folder.file c.args.files.now; faults = g.F.Folder.faults c.args.files.now } in
     let mid : Files = record { tells = g.F.Folder.tells c.input.new.files; file = g.F.Folder.file c.input.new.files; faults = g.F.Folder.faults c.input.new.files } in
     judge_second _ _ _ _ _ _ _ c.in-Ok.ensures.reads
     (read_later old mid _ _ _ _ c.input.ensures.kept c.input.ensures.tells c.in-Ok.ensures.reads.later c.in-Err-input.ensures.reads)
     (λ n. c.input-2.ensures.kept n ∙ c.input.ensures.kept n)
 
-pub returns : goal.returns
-returns g c =
+pub returns-clause-ends : goal.returns-clause-ends
+returns-clause-ends g c =
     let old : Files = record { tells = g.F.Folder.tells c.args.files.now; file = g.F.Folder.file c.args.files.now; faults = g.F.Folder.faults c.args.files.now } in
     let mid : Files = record { tells = g.F.Folder.tells c.input.new.files; file = g.F.Folder.file c.input.new.files; faults = g.F.Folder.faults c.input.new.files } in
     judge_both _ _ _ _ _ _ _ _ c.in-Ok.ensures.reads

@@ -3,19 +3,19 @@ use Rattle.cp_tool.specs.Runs.{Files, verified}
 use Rattle.cp_tool.proofs.InputLemmas.{read_later, verify_first, verify_second, verify_third, verify_all}
 use Rattle.cp_tool.proofs.verifying.run_verify.Goals as goal
 
-pub returns-in-Err : goal.returns-in-Err
-returns-in-Err g c = verify_first _ _ _ _ _ _ c.in-Err.ensures.reads c.input.ensures.kept
+pub returns-in-Err-clause-ends : goal.returns-in-Err-clause-ends
+returns-in-Err-clause-ends g c = verify_first _ _ _ _ _ _ c.in-Err.ensures.reads c.input.ensures.kept
 
-pub returns-in-Err-input : goal.returns-in-Err-input
-returns-in-Err-input g c =
+pub returns-in-Err-input-clause-ends : goal.returns-in-Err-input-clause-ends
+returns-in-Err-input-clause-ends g c =
     let old : Files = record { tells = g.F.Folder.tells c.args.files.now; file = g.F.Folder.file c.args.files.now; faults = g.F.Folder.faults c.args.files.now } in
     let mid : Files = record { tells = g.F.Folder.tells c.input.new.files; file = g.F.Folder.file c.input.new.files; faults = g.F.Folder.faults c.input.new.files } in
     verify_second _ _ _ _ _ _ _ _ c.in-Ok.ensures.reads
     (read_later old mid _ _ _ _ c.input.ensures.kept c.input.ensures.tells c.in-Ok.ensures.reads.later c.in-Err-input.ensures.reads)
     (λ n. c.input-2.ensures.kept n ∙ c.input.ensures.kept n)
 
-pub returns-in-Err-input-2 : goal.returns-in-Err-input-2
-returns-in-Err-input-2 g c =
+pub returns-in-Err-input-2-clause-ends : goal.returns-in-Err-input-2-clause-ends
+returns-in-Err-input-2-clause-ends g c =
     let old : Files = record { tells = g.F.Folder.tells c.args.files.now; file = g.F.Folder.file c.args.files.now; faults = g.F.Folder.faults c.args.files.now } in
     let mid : Files = record { tells = g.F.Folder.tells c.input.new.files; file = g.F.Folder.file c.input.new.files; faults = g.F.Folder.faults c.input.new.files } in
     let last : Files = record { tells = g.F.Folder.tells c.input-2.new.files; file = g.F.Folder.file c.input-2.new.files; faults = g.F.Folder.faults c.input-2.new.files } in
@@ -24,8 +24,8 @@ returns-in-Err-input-2 g c =
     (read_later old last _ _ _ _ (λ n. c.input-2.ensures.kept n ∙ c.input.ensures.kept n) (c.input-2.ensures.tells ∙ c.input.ensures.tells) second.later c.in-Err-input-2.ensures.reads)
     (λ n. c.input-3.ensures.kept n ∙ c.input-2.ensures.kept n ∙ c.input.ensures.kept n)
 
-pub returns : goal.returns
-returns g c =
+pub returns-clause-ends : goal.returns-clause-ends
+returns-clause-ends g c =
     let old : Files = record { tells = g.F.Folder.tells c.args.files.now; file = g.F.Folder.file c.args.files.now; faults = g.F.Folder.faults c.args.files.now } in
     let mid : Files = record { tells = g.F.Folder.tells c.input.new.files; file = g.F.Folder.file c.input.new.files; faults = g.F.Folder.faults c.input.new.files } in
     let last : Files = record { tells = g.F.Folder.tells c.input-2.new.files; file = g.F.Folder.file c.input-2.new.files; faults = g.F.Folder.faults c.input-2.new.files } in

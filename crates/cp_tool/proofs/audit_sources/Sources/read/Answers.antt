@@ -7,8 +7,8 @@ use Rattle.cp_endings.specs.declared.epoch_part.EpochPart.TheVariants.{Families,
 use Rattle.cp_tool.proofs.SourceLemmas.{all_read, follows_next, follows_none, source_later, refused_1, refused_2, refused_3, refused_4, refused_5, refused_6, refused_7, refused_8}
 use Rattle.cp_tool.proofs.audit_sources.Sources.read.Goals as goal
 
-pub returns-in_err-key : goal.returns-in_err-key
-returns-in_err-key g c =
+pub returns-in_err-key-clause-reads : goal.returns-in_err-key-clause-reads
+returns-in_err-key-clause-reads g c =
     let words = audit_words_view c.args.words in
     let old : Files = record { tells = g.F.Folder.tells c.args.files.now; file = g.F.Folder.file c.args.files.now; faults = g.F.Folder.faults c.args.files.now } in
     let f0 = follows_none old in
@@ -24,8 +24,8 @@ returns-in_err-key g c =
       follows = f1;
     })
 
-pub returns-in_err-families : goal.returns-in_err-families
-returns-in_err-families g c =
+pub returns-in_err-families-clause-reads : goal.returns-in_err-families-clause-reads
+returns-in_err-families-clause-reads g c =
     let words = audit_words_view c.args.words in
     let old : Files = record { tells = g.F.Folder.tells c.args.files.now; file = g.F.Folder.file c.args.files.now; faults = g.F.Folder.faults c.args.files.now } in
     let f0 = follows_none old in
@@ -44,8 +44,8 @@ returns-in_err-families g c =
       follows = f2;
     })
 
-pub returns-in_err-before : goal.returns-in_err-before
-returns-in_err-before g c =
+pub returns-in_err-before-clause-reads : goal.returns-in_err-before-clause-reads
+returns-in_err-before-clause-reads g c =
     let words = audit_words_view c.args.words in
     let old : Files = record { tells = g.F.Folder.tells c.args.files.now; file = g.F.Folder.file c.args.files.now; faults = g.F.Folder.faults c.args.files.now } in
     let f0 = follows_none old in
@@ -67,8 +67,8 @@ returns-in_err-before g c =
       follows = f3;
     })
 
-pub returns-in_err-closing : goal.returns-in_err-closing
-returns-in_err-closing g c =
+pub returns-in_err-closing-clause-reads : goal.returns-in_err-closing-clause-reads
+returns-in_err-closing-clause-reads g c =
     let words = audit_words_view c.args.words in
     let old : Files = record { tells = g.F.Folder.tells c.args.files.now; file = g.F.Folder.file c.args.files.now; faults = g.F.Folder.faults c.args.files.now } in
     let f0 = follows_none old in
@@ -93,8 +93,8 @@ returns-in_err-closing g c =
       follows = f4;
     })
 
-pub returns-in_err-table_before : goal.returns-in_err-table_before
-returns-in_err-table_before g c =
+pub returns-in_err-table_before-clause-reads : goal.returns-in_err-table_before-clause-reads
+returns-in_err-table_before-clause-reads g c =
     let words = audit_words_view c.args.words in
     let old : Files = record { tells = g.F.Folder.tells c.args.files.now; file = g.F.Folder.file c.args.files.now; faults = g.F.Folder.faults c.args.files.now } in
     let f0 = follows_none old in
@@ -122,8 +122,8 @@ returns-in_err-table_before g c =
       follows = f5;
     })
 
-pub returns-in_err-table : goal.returns-in_err-table
-returns-in_err-table g c =
+pub returns-in_err-table-clause-reads : goal.returns-in_err-table-clause-reads
+returns-in_err-table-clause-reads g c =
     let words = audit_words_view c.args.words in
     let old : Files = record { tells = g.F.Folder.tells c.args.files.now; file = g.F.Folder.file c.args.files.now; faults = g.F.Folder.faults c.args.files.now } in
     let f0 = follows_none old in
@@ -154,8 +154,8 @@ returns-in_err-table g c =
       follows = f6;
     })
 
-pub returns-in_err-log : goal.returns-in_err-log
-returns-in_err-log g c =
+pub returns-in_err-log-clause-reads : goal.returns-in_err-log-clause-reads
+returns-in_err-log-clause-reads g c =
     let words = audit_words_view c.args.words in
     let old : Files = record { tells = g.F.Folder.tells c.args.files.now; file = g.F.Folder.file c.args.files.now; faults = g.F.Folder.faults c.args.files.now } in
     let f0 = follows_none old in
@@ -189,8 +189,8 @@ returns-in_err-log g c =
       follows = f7;
     })
 
-pub returns-in_err-hand_ins : goal.returns-in_err-hand_ins
-returns-in_err-hand_ins g c =
+pub returns-in_err-hand_ins-clause-reads : goal.returns-in_err-hand_ins-clause-reads
+returns-in_err-hand_ins-clause-reads g c =
     let words = audit_words_view c.args.words in
     let old : Files = record { tells = g.F.Folder.tells c.args.files.now; file = g.F.Folder.file c.args.files.now; faults = g.F.Folder.faults c.args.files.now } in
     let f0 = follows_none old in
@@ -227,8 +227,8 @@ returns-in_err-hand_ins g c =
       follows = f8;
     })
 
-pub returns : goal.returns
-returns g c =
+pub returns-clause-reads : goal.returns-clause-reads
+returns-clause-reads g c =
     let words = audit_words_view c.args.words in
     let old : Files = record { tells = g.F.Folder.tells c.args.files.now; file = g.F.Folder.file c.args.files.now; faults = g.F.Folder.faults c.args.files.now } in
     let f0 = follows_none old in
