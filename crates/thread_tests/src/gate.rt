@@ -4,7 +4,7 @@ ghost use Rattle.cp_gate.specs.Models.{IsSeatOf, places};
 
 use cp_gate::{Gate, OutOfMemory, Seat, StandsFor};
 use std::sync::Wait;
-use std::sync::atomic::{AtomicU64, Ordering};
+use std::sync::atomic::{AtomicBool, Ordering};
 use std::test::Fail;
 use std::thread::{Threads, join, yield_now};
 
@@ -71,47 +71,93 @@ fn visit(visits: &mut Visits, number: u32) -> Result<(), OutOfMemory>
     Ok(())
 }
 
-// Visits a place and stays there until the flag is 1, for a million turns at most. It answers whether the flag was, at the first visit there.
+// What the seats of a race tell each other.
+#[derive(Drop)]
+struct Flags {
+    // The one is inside its place.
+    inside: AtomicBool,
+    // The other is about to enter its place.
+    coming: AtomicBool,
+    // The other has left its place again.
+    gone: AtomicBool,
+}
+
+// Lets other threads run until the flag is set, for a million turns at most. It answers whether the flag was set by then.
+fn wait_for(flag: &AtomicBool) -> bool {
+    for _ in 0..1_000_000 {
+        if flag.load(Ordering::SeqCst) {
+            return true;
+        }
+        yield_now();
+    }
+    false
+}
+
+// Enters place 0 and stays there until the flag is set, and ten thousand turns more. It answers whether it saw the flag set while it was inside.
 fn stay<R: Wait>(
     rt: &R,
     gate: &Gate<Visits>,
     seat: &mut Seat<Visits>,
-    place: u32,
-    flag: &AtomicU64,
+    inside: &AtomicBool,
+    flag: &AtomicBool,
 ) -> bool
+    requires { IsSeatOf gate.now seat.old × (seat.old.entered ≡ None) × (0 < places gate.now) }
+    ensures { IsSeatOf gate.now seat.new × (seat.new.entered ≡ None) }
+{
+    let mut held = gate.enter(rt, seat, 0);
+    inside.store(true, Ordering::SeqCst);
+    let seen = wait_for(flag);
+    for _ in 0..10_000 {
+        yield_now();
+    }
+    let done = visit(held.value_mut(), seat.number());
+    gate.leave(seat, held);
+    seen && done.is_ok()
+}
+
+// Enters a place and leaves it, once the one is inside place 0. It answers whether it saw the one inside before it entered, and who was at the place before it.
+fn follow<R: Wait>(
+    rt: &R,
+    gate: &Gate<Visits>,
+    seat: &mut Seat<Visits>,
+    place: u32,
+    flags: &Flags,
+) -> (bool, Option<u32>)
     requires { IsSeatOf gate.now seat.old × (seat.old.entered ≡ None) × (place < places gate.now) }
     ensures { IsSeatOf gate.now seat.new × (seat.new.entered ≡ None) }
 {
+    let seen = wait_for(&flags.inside);
+    flags.coming.store(true, Ordering::SeqCst);
     let mut held = gate.enter(rt, seat, place);
-    let is_first = held.value().numbers.is_empty();
+    let before = held.value().numbers.last().copied();
     let done = visit(held.value_mut(), seat.number());
-    let mut seen = false;
-    for _ in 0..1_000_000 {
-        if flag.load(Ordering::SeqCst) == 1 {
-            seen = true;
-            break;
-        }
-        yield_now();
-    }
     gate.leave(seat, held);
-    is_first && seen && done.is_ok()
+    flags.gone.store(true, Ordering::SeqCst);
+    (seen && done.is_ok(), before)
 }
 
-// One seat stays at place 0 until the other has been at its place, which may be the same.
+// One seat stays at place 0. The other follows to its place, which may be the same. The one leaves once the other is gone, or, at the same place, some time after the other began to come.
 fn race<R: Threads + Wait + Sync>(
     rt: &R,
     gate: &Gate<Visits>,
     one: Seat<Visits>,
     other: Seat<Visits>,
     place: u32,
-) -> ((Seat<Visits>, bool), (Seat<Visits>, bool))
+) -> ((Seat<Visits>, bool), (Seat<Visits>, (bool, Option<u32>)))
     requires { (0 < places gate.now) × (place < places gate.now) × IsSeatOf gate.now one × IsSeatOf gate.now other × (one.entered ≡ None) × (other.entered ≡ None) }
     ensures { IsSeatOf gate.now result.0.0 × IsSeatOf gate.now result.1.0 × (result.0.0.entered ≡ None) × (result.1.0.entered ≡ None) }
 {
-    let left = AtomicU64::new(0);
-    let now = AtomicU64::new(1);
-    let left = &left;
-    let now = &now;
+    let flags = Flags {
+        inside: AtomicBool::new(false),
+        coming: AtomicBool::new(false),
+        gone: AtomicBool::new(false),
+    };
+    let flags = &flags;
+    let flag = if place == 0 {
+        &flags.coming
+    } else {
+        &flags.gone
+    };
     join(
         rt,
         move ||
@@ -119,22 +165,21 @@ fn race<R: Threads + Wait + Sync>(
             ensures { IsSeatOf gate.entry.now result.0 × (result.0.entered ≡ None) }
         {
             let mut one = one;
-            let seen = stay(rt, gate, &mut one, 0, left);
-            (one, seen)
+            let answer = stay(rt, gate, &mut one, &flags.inside, flag);
+            (one, answer)
         },
         move ||
             requires { IsSeatOf gate.now other × (other.entered ≡ None) × (place < places gate.now) }
             ensures { IsSeatOf gate.entry.now result.0 × (result.0.entered ≡ None) }
         {
             let mut other = other;
-            let seen = stay(rt, gate, &mut other, place, now);
-            left.store(1, Ordering::SeqCst);
-            (other, seen)
+            let answer = follow(rt, gate, &mut other, place, flags);
+            (other, answer)
         },
     )
 }
 
-// While one seat is at a place, another comes and goes at the next. Each visit is there at the end.
+// One seat goes into place 0. While it is inside, the other enters place 1 and leaves it, and the one sees that before it leaves. A gate where the other had to wait for the one would fail here.
 #[test]
 fn places_go_side_by_side(rt: HostRuntime) -> Result<(), Fail> {
     let mut values = Vec::new(rt.alloc());
@@ -151,8 +196,9 @@ fn places_go_side_by_side(rt: HostRuntime) -> Result<(), Fail> {
     let other = seats.pop().unwrap();
     let one = seats.pop().unwrap();
     assert_eq!(rt; (one.number(), other.number()), (0, 1));
-    let ((mut one, came), (mut other, went)) = race(&rt, &gate, one, other, 1);
-    assert_eq!(rt; (came, went), (true, true));
+    let ((mut one, stayed), (mut other, followed)) = race(&rt, &gate, one, other, 1);
+    assert_eq!(rt; stayed, true);
+    assert_eq!(rt; followed, (true, None));
     assert_eq!(rt; gate.look(&mut one, 1), 1);
     gate.tell(&mut one, &mut other);
     seats.push(one)?;
@@ -163,19 +209,26 @@ fn places_go_side_by_side(rt: HostRuntime) -> Result<(), Fail> {
     Ok(())
 }
 
-// While one seat is at a place, another waits for it, and is woken.
+// One seat is at a place, and the other comes to the same place. The one stays so long that the other normally sleeps by then. Then it leaves, and the other enters and finds the one's visit. If the one woke nobody, the test would not end.
 #[test]
 fn a_seat_waits_for_its_place(rt: HostRuntime) -> Result<(), Fail> {
     let mut values = Vec::new(rt.alloc());
     values.push(Visits {
         numbers: Vec::new(rt.alloc()),
     })?;
+    let room = Vec::with_capacity(rt.alloc(), 1)?;
     let Ok((gate, mut seats)) = Gate::new(rt.alloc(), (), values, 2) else {
         return Err(OutOfMemory.into());
     };
     let other = seats.pop().unwrap();
     let one = seats.pop().unwrap();
-    let ((mut one, _came), (_other, _went)) = race(&rt, &gate, one, other, 0);
+    let ((mut one, stayed), (other, followed)) = race(&rt, &gate, one, other, 0);
+    assert_eq!(rt; stayed, true);
+    assert_eq!(rt; followed, (true, Some(0)));
     assert_eq!(rt; gate.look(&mut one, 0), 2);
+    seats.push(one)?;
+    seats.push(other)?;
+    let visits = gate.close(seats, room);
+    assert_eq!(rt; visits[0].numbers.as_slice(), [0, 1].as_slice());
     Ok(())
 }
