@@ -6,7 +6,8 @@ use cp_gate::{Gate, OutOfMemory, Seat, StandsFor};
 use std::sync::Wait;
 use std::sync::atomic::{AtomicBool, Ordering};
 use std::test::Fail;
-use std::thread::{Threads, join, yield_now};
+use std::thread::{Threads, join, sleep};
+use std::time::{Clock, Duration};
 
 // The numbers of the seats that came by, each of which is an item that names its seat.
 #[derive(Drop)]
@@ -82,19 +83,19 @@ struct Flags {
     gone: AtomicBool,
 }
 
-// Lets other threads run until the flag is set, for a million turns at most. It answers whether the flag was set by then.
-fn wait_for(flag: &AtomicBool) -> bool {
-    for _ in 0..1_000_000 {
+// Sleeps until the flag is set, a millisecond at a time and ten thousand times at most. It answers whether the flag was set by then.
+fn wait_for<R: Clock>(rt: &R, flag: &AtomicBool) -> bool {
+    for _ in 0..10_000 {
         if flag.load(Ordering::SeqCst) {
             return true;
         }
-        yield_now();
+        sleep(rt, Duration::from_millis(1));
     }
     false
 }
 
-// Enters place 0 and stays there until the flag is set, and ten thousand turns more. It answers whether it saw the flag set while it was inside.
-fn stay<R: Wait>(
+// Enters place 0 and stays there until the flag is set, and 50 milliseconds more. It answers whether it saw the flag set while it was inside.
+fn stay<R: Wait + Clock>(
     rt: &R,
     gate: &Gate<Visits>,
     seat: &mut Seat<Visits>,
@@ -106,17 +107,15 @@ fn stay<R: Wait>(
 {
     let mut held = gate.enter(rt, seat, 0);
     inside.store(true, Ordering::SeqCst);
-    let seen = wait_for(flag);
-    for _ in 0..10_000 {
-        yield_now();
-    }
+    let seen = wait_for(rt, flag);
+    sleep(rt, Duration::from_millis(50));
     let done = visit(held.value_mut(), seat.number());
     gate.leave(seat, held);
     seen && done.is_ok()
 }
 
 // Enters a place and leaves it, once the one is inside place 0. It answers whether it saw the one inside before it entered, and who was at the place before it.
-fn follow<R: Wait>(
+fn follow<R: Wait + Clock>(
     rt: &R,
     gate: &Gate<Visits>,
     seat: &mut Seat<Visits>,
@@ -126,7 +125,7 @@ fn follow<R: Wait>(
     requires { IsSeatOf gate.now seat.old × (seat.old.entered ≡ None) × (place < places gate.now) }
     ensures { IsSeatOf gate.now seat.new × (seat.new.entered ≡ None) }
 {
-    let seen = wait_for(&flags.inside);
+    let seen = wait_for(rt, &flags.inside);
     flags.coming.store(true, Ordering::SeqCst);
     let mut held = gate.enter(rt, seat, place);
     let before = held.value().numbers.last().copied();
@@ -136,8 +135,8 @@ fn follow<R: Wait>(
     (seen && done.is_ok(), before)
 }
 
-// One seat stays at place 0. The other follows to its place, which may be the same. The one leaves once the other is gone, or, at the same place, some time after the other began to come.
-fn race<R: Threads + Wait + Sync>(
+// One seat enters place 0, and then the other its place, which may be the same. The one leaves once it has seen that the other is gone, or, at the same place, that it is coming.
+fn race<R: Threads + Wait + Clock + Sync>(
     rt: &R,
     gate: &Gate<Visits>,
     one: Seat<Visits>,
@@ -179,7 +178,7 @@ fn race<R: Threads + Wait + Sync>(
     )
 }
 
-// One seat goes into place 0. While it is inside, the other enters place 1 and leaves it, and the one sees that before it leaves. A gate where the other had to wait for the one would fail here.
+// One seat enters place 0. While it is inside, the other enters place 1 and leaves it again, and the one sees that before it leaves. With one lock for all places the one would wait in vain, and the test would fail.
 #[test]
 fn places_go_side_by_side(rt: HostRuntime) -> Result<(), Fail> {
     let mut values = Vec::new(rt.alloc());
@@ -197,7 +196,7 @@ fn places_go_side_by_side(rt: HostRuntime) -> Result<(), Fail> {
     let one = seats.pop().unwrap();
     assert_eq!(rt; (one.number(), other.number()), (0, 1));
     let ((mut one, stayed), (mut other, followed)) = race(&rt, &gate, one, other, 1);
-    assert_eq!(rt; stayed, true);
+    assert!(rt; stayed);
     assert_eq!(rt; followed, (true, None));
     assert_eq!(rt; gate.look(&mut one, 1), 1);
     gate.tell(&mut one, &mut other);
@@ -209,7 +208,7 @@ fn places_go_side_by_side(rt: HostRuntime) -> Result<(), Fail> {
     Ok(())
 }
 
-// One seat is at a place, and the other comes to the same place. The one stays so long that the other normally sleeps by then. Then it leaves, and the other enters and finds the one's visit. If the one woke nobody, the test would not end.
+// One seat is inside a place when the other comes to it. The one stays so long that the other normally sleeps by then, and leaves. The other then enters, and finds the visit of the one. If nobody woke the other, the test would not end.
 #[test]
 fn a_seat_waits_for_its_place(rt: HostRuntime) -> Result<(), Fail> {
     let mut values = Vec::new(rt.alloc());
@@ -223,7 +222,7 @@ fn a_seat_waits_for_its_place(rt: HostRuntime) -> Result<(), Fail> {
     let other = seats.pop().unwrap();
     let one = seats.pop().unwrap();
     let ((mut one, stayed), (other, followed)) = race(&rt, &gate, one, other, 0);
-    assert_eq!(rt; stayed, true);
+    assert!(rt; stayed);
     assert_eq!(rt; followed, (true, Some(0)));
     assert_eq!(rt; gate.look(&mut one, 0), 2);
     seats.push(one)?;
