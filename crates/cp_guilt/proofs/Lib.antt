@@ -6,4 +6,3 @@ pub mod SegmentsOfLife
 pub mod NoFraming
 pub mod HonestLemmas
 pub mod OwnLemmas
-pub mod OwnMaterial
