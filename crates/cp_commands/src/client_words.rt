@@ -28,10 +28,13 @@ pub struct CallWords {
 pub struct PutWords<'a> {
     /// The file of the writer's seed, 48 bytes.
     pub seed: &'a str,
+    /// The height of the writer's tree: 5, 10 or 15.
     pub height: Height,
+    /// The type of the writer's one-time signatures, by its width: 1, 2, 4 or 8.
     pub ots: OtsType,
     /// The file of the store's key, 56 bytes.
     pub store: &'a str,
+    /// The epoch, block, client and nonce of the put.
     pub call: CallWords,
     /// The version that the put makes.
     pub version: u64,
@@ -46,6 +49,7 @@ pub struct PutWords<'a> {
 pub struct GetWords<'a> {
     /// The file of the store's key, 56 bytes.
     pub store: &'a str,
+    /// The epoch, block, client and nonce of the get.
     pub call: CallWords,
     /// The file that is written: the get request.
     pub out: &'a str,

@@ -16,7 +16,9 @@ use lms_tree::Height;
 pub struct ReplayWords<'a> {
     /// The file of the store's seed, 48 bytes.
     pub seed: &'a str,
+    /// The height of the store's tree: 5, 10 or 15.
     pub height: Height,
+    /// The type of the store's one-time signatures, by its width: 1, 2, 4 or 8.
     pub ots: OtsType,
     /// How many pages of 1,024 bytes each shard has: 0 to 65,536.
     pub pages: u32,

@@ -18,6 +18,6 @@ pub use reading::{HEAD_LIMIT, head_end, parse_head, read_head};
 pub use responses::{response, response_head};
 pub use short_texts::ShortText;
 
-/// There is no memory left for what was asked: std's `AllocError`, under the name that this house
-/// uses.
+/// There is no memory left for what was asked: std's `AllocError`, under the name that the crates
+/// of this project use.
 pub use std::alloc::AllocError as OutOfMemory;

@@ -1,7 +1,7 @@
 //! Why a call of the outside was refused.
 
 /// There is no memory left for what was asked: `AllocError` of std, under the name that the calls
-/// of this house use.
+/// of this project use.
 pub use std::alloc::AllocError as OutOfMemory;
 
 /// A call of the outside failed. It is answered only by a call in which the count of faults rose, or

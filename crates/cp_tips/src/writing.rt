@@ -9,7 +9,8 @@ use cp_bytes::put;
 use std::alloc::Global;
 use std::collections::BTreeMap;
 
-/// The table's text: a row for each block of the map, ascending.
+/// The table's text: the four bytes `CPt1`, then a row of 88 bytes for each block of the map,
+/// ascending. `OutOfMemory` comes where its bytes can't be had.
 pub fn build(alloc: Global, tips: &BTreeMap<u64, Tip>) -> Result<Vec<u8>, OutOfMemory>
     ensures text { IfOk result (λ text. text.items ≡ table_text (rows_of tips.now.entries)) }
     ensures ascends { IfOk result (λ _. IsTrue (ascends (rows_of tips.now.entries))) }

@@ -6,7 +6,8 @@ use cp_bytes::put;
 use sha2::{Digest, Sha256};
 
 /// The 22 bytes that each hashed text of LM-OTS and LMS begins with: the key's identifier I, the
-/// number of a leaf or a node, and a chain's number or one of the standard's constants `D_...`.
+/// number of a leaf or a node, and a chain's number or one of the standard's constants `D_...`
+/// (RFC 8554, 4.3 to 4.6 and 5.3).
 pub fn tagged(id: &[u8; 16], number: u32, tag: u16) -> [u8; 22]
     ensures { result ≡ tagged id.now number tag }
 {

@@ -3,7 +3,8 @@ ghost use Rattle.std.specs.Prelude.{◌≡◌, ◌+◌, ◌-◌, ◌*◌, ◌/�
 ghost use Rattle.lms_ots.specs.Parameters.{IsWidth};
 ghost use Rattle.lms_ots.specs.Ots.{coef, cksm};
 
-/// The digit `i` of `w` bits of `s`, counted from the high bits of its first byte on.
+/// The digit `i` of `w` bits of `s`, counted from the high bits of its first byte on
+/// (RFC 8554, 3.1.3).
 #[tactic(auto, unfolding(crate::specs::Ots::coef))]
 pub fn coef(s: &[u8], i: u32, w: u32) -> u8
     requires width { IsWidth w }
@@ -18,7 +19,7 @@ pub fn coef(s: &[u8], i: u32, w: u32) -> u8
 }
 
 /// The checksum of the digits of a hash: how far each is from the greatest, added up and shifted
-/// left so that its own digits begin at the first of 16 bits.
+/// left so that its own digits begin at the first of 16 bits (RFC 8554, 4.4, algorithm 2).
 #[tactic(auto, unfolding(crate::specs::Ots::cksm_sum, crate::specs::Ots::cksm))]
 pub fn cksm(s: &[u8; 32], w: u32) -> u16
     requires { IsWidth w }

@@ -40,7 +40,7 @@ impl OtsType {
         }
     }
 
-    /// p, the number of chains: one for each digit of the hash and of its checksum.
+    /// p, the number of chains: one for each digit of the hash and of its checksum (RFC 8554, 4.1).
     pub fn p(self) -> u32
         ensures { result ≡ chains_of self }
     {
@@ -76,7 +76,8 @@ impl OtsType {
         }
     }
 
-    /// The length of a signature in bytes.
+    /// The length of a signature in bytes: 4 of the type code, 32 of the randomizer, and 32 of each of
+    /// the p values (RFC 8554, 4.5).
     pub fn sig_len(self) -> usize
         ensures { result ≡ sig_len_of self }
     {

@@ -44,7 +44,8 @@ fn part(t: OtsType, id: &[u8; 16], q: u32, i: u32, s: &[u8; 34], secret: &[u8; 3
     chain(id, q, i as u16, 0, coef(s, i, t.w()), start)
 }
 
-/// K, the one-time public key of the key `id`, the leaf `q` and the seed `secret`.
+/// K, the one-time public key of the key `id`, the leaf `q` and the seed `secret` (RFC 8554, 4.3,
+/// algorithm 1, with the secret values of Appendix A).
 #[tactic(auto, using(crate::proofs::Types::types), unfolding(crate::specs::Signing::one_time_key, crate::specs::Signing::public_ends))]
 pub fn ots_public(t: OtsType, id: &[u8; 16], q: u32, secret: &[u8; 32]) -> [u8; 32]
     ensures { result ≡ one_time_key t id.now q secret.now }
@@ -59,7 +60,7 @@ pub fn ots_public(t: OtsType, id: &[u8; 16], q: u32, secret: &[u8; 32]) -> [u8; 
 /// Writes the signature of `text` by the leaf `q` into `out`, which has the length of a signature:
 /// the type code, the randomizer C and a value of 32 bytes for each chain. It is a function of type,
 /// identifier, leaf, seed and text. A leaf may sign one text only: two signatures of one leaf give
-/// away values from which others can be forged.
+/// away values from which others can be forged (RFC 8554, 4.5, algorithm 3).
 #[tactic(auto, using(crate::proofs::Types::types), unfolding(crate::specs::Signing::ots_signature, crate::specs::Signing::signed_chains))]
 pub fn ots_sign(t: OtsType, id: &[u8; 16], q: u32, secret: &[u8; 32], text: &[u8], out: &mut [u8])
     requires { length out.old ≡ sig_len_of t }

@@ -14,7 +14,8 @@ use std::thread::Threads;
 
 /// A private key: a secret seed, the identifier I, the two types, and all nodes of the tree, which
 /// are computed once. Contracts see the seed, the identifier and the types. Which leaves have signed
-/// isn't kept here: whoever holds the key sees to it that each leaf signs one text only.
+/// isn't kept here: whoever holds the key sees to it that each leaf signs one text only (RFC 8554,
+/// 5.2).
 #[derive(Drop)]
 pub struct PrivateKey {
     seed: [u8; 32],
@@ -40,8 +41,8 @@ impl PrivateKey {
     ghost use Rattle.lms_tree.specs.Secret.{leaves_of, public_of, signature, signature_len};
 
     /// The key of a seed and an identifier. All nodes of the tree are computed: for each leaf each
-    /// chain in its whole length. It takes 64 bytes for each leaf, at once; `OutOfMemory` comes where
-    /// they can't be had.
+    /// chain in its whole length, from the secret values of RFC 8554, Appendix A. It takes 64 bytes
+    /// for each leaf, at once; `OutOfMemory` comes where they can't be had.
     pub fn make(
         alloc: Global,
         secret: [u8; 32],
@@ -87,7 +88,7 @@ impl PrivateKey {
         })
     }
 
-    /// The public key. Its root is the node 1 of the tree.
+    /// The public key. Its root is the node 1 of the tree (RFC 8554, 5.3).
     #[tactic(auto, unfolding(crate::specs::Secret::public_of))]
     pub fn public(&self) -> PublicKey
         ensures { result ≡ public_of self.now }
@@ -102,7 +103,7 @@ impl PrivateKey {
         self.height.leaves()
     }
 
-    /// The length of a signature in bytes.
+    /// The length of a signature in bytes (RFC 8554, 5.4).
     pub fn sig_len(&self) -> usize
         ensures { result ≡ signature_len self.now }
     {
@@ -111,7 +112,7 @@ impl PrivateKey {
 
     /// Writes the signature of `text` by this leaf into `out`, which has the length of a signature.
     /// It is a function of key, leaf and text, names the leaf, and verifies under `public()`. The
-    /// path is read from the kept nodes. No memory is taken.
+    /// path is read from the kept nodes (RFC 8554, 5.4.1). No memory is taken.
     #[tactic(auto, using(std::proofs::lemmas::Slice::overwrites), unfolding(crate::specs::Secret::signature, crate::specs::Secret::signature_head))]
     pub fn sign_into(&self, leaf: u32, text: &[u8], out: &mut [u8])
         requires leaf { leaf < leaves_of self.now }
