@@ -1,5 +1,5 @@
 -- The whole answer, by what is given, what was handed in and what is found.
-use Rattle.std.proofs.Common.{◌≡◌, ℕ, ◌-◌, ◌≤◌, List, length, sum_by, count_by, Option, Some, None, Ok, Err, refl, sym, ap, ◌∙◌, arith}
+use Rattle.std.proofs.Common.{◌≡◌, ℕ, ◌-◌, ◌≤◌, List, length, sum_by, count_by, Option, Some, None, Ok, Err, refl, sym, ap, subst, ◌∙◌, arith}
 use Rattle.std.specs.Prelude.{map, filter}
 use Rattle.std.proofs.lemmas.List.Sums.{length-filter, count_by-le-length}
 use Rattle.std.proofs.lemmas.List.{length-map}
@@ -7,7 +7,7 @@ use Rattle.cp_bytes.specs.Fields.{IsBytes}
 use Rattle.cp_statements.specs.Envelope as spec
 use Rattle.cp_statements.specs.View.{envelope_view}
 use Rattle.cp_chain.specs.Rules.{first_of}
-use Rattle.cp_evidence.specs.AuditLaws.{IsMaterial, LongPartsFit}
+use Rattle.cp_evidence.specs.AuditLaws.{IsMaterial, LongPartsFit, evidence_limit}
 use Rattle.cp_evidence.specs.Audited as audited
 use Rattle.cp_evidence.specs.Conditions.{signed_by, Convicts}
 use Rattle.cp_evidence.specs.Evidence.{Evidence, evidence_of, evidence_text}
@@ -15,7 +15,7 @@ use Rattle.cp_evidence.specs.HandIns.{hand_ins_of}
 use Rattle.cp_evidence.specs.Material.{Material, GivenEpoch, given_of, parts_or_none}
 use Rattle.cp_evidence.specs.Verdict as verdict
 use Rattle.cp_evidence.proofs.AuditLemmas.{written}
-use Rattle.cp_evidence.proofs.Lengths.{guilt_fits}
+use Rattle.cp_evidence.proofs.Lengths.{guilt_fits, guilt_short}
 use Rattle.cp_evidence.proofs.ReadingEvidence.{evidence_exact}
 use Rattle.cp_audit.specs.declared.hand_ins.HandIns.{HandIns}
 use Rattle.cp_audit.specs.declared.refusal.AuditRefusal.{AuditRefusal}
@@ -57,6 +57,10 @@ convicts_by m o bytes out hand_ins e material are given read found is long = rw 
 -- they read as the evidence
 pub reads_by : (m : Material) (o : GivenEpoch) (bytes out : List ℕ) (hand_ins : List spec.Envelope) (e : Evidence) → IsMaterial m → IsBytes bytes → given_of m ≡ Ok o → hand_ins_of bytes ≡ Ok hand_ins → verdict.guilt o hand_ins ≡ Some e → out ≡ evidence_text e → LongPartsFit e → evidence_of out ≡ Ok e
 reads_by m o bytes out hand_ins e material are given read found is long = rw is (evidence_exact.spelled_is_read e (guilt_fits m o bytes hand_ins e material are given read found long))
+
+-- they are few
+pub short_by : (m : Material) (o : GivenEpoch) (bytes out : List ℕ) (hand_ins : List spec.Envelope) (e : Evidence) → IsMaterial m → IsBytes bytes → given_of m ≡ Ok o → hand_ins_of bytes ≡ Ok hand_ins → verdict.guilt o hand_ins ≡ Some e → out ≡ evidence_text e → length out ≤ evidence_limit m bytes
+short_by m o bytes out hand_ins e material are given read found is = subst (λ (l : List ℕ). length l ≤ evidence_limit m bytes) (sym is) (guilt_short m o bytes hand_ins e material are given read found)
 
 -- ---- where nothing is found
 

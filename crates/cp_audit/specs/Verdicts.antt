@@ -1,5 +1,5 @@
 -- What the audit answers.
-use Rattle.std.specs.Prelude.{ℕ, ◌≡◌, List, [], ◌∷◌, not, map, option_map, Option, Result, Ok, Err, ◌++◌}
+use Rattle.std.specs.Prelude.{ℕ, ◌≡◌, ◌≤◌, List, [], ◌∷◌, length, not, map, option_map, Option, Result, Ok, Err, ◌++◌}
 use Rattle.std.specs.List.{find}
 use Rattle.cp_statements.specs.Envelope.{Envelope}
 use Rattle.cp_chain.specs.Rules.{first_of}
@@ -61,3 +61,9 @@ abbrev pub GuiltyConvicts : List ℕ → Result Verdict AuditRefusal → Type 0
 GuiltyConvicts key (Ok (Guilty bytes)) = Convicts key bytes
 GuiltyConvicts key (Ok (Clean entries handed aside)) = Unit {0}
 GuiltyConvicts key (Err refusal) = Unit {0}
+
+-- the evidence has at most so many bytes
+abbrev pub GuiltyWithin : ℕ → Result Verdict AuditRefusal → Type 0
+GuiltyWithin limit (Ok (Guilty bytes)) = length bytes ≤ limit
+GuiltyWithin limit (Ok (Clean entries handed aside)) = Unit {0}
+GuiltyWithin limit (Err refusal) = Unit {0}

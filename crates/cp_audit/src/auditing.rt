@@ -2,12 +2,12 @@
 ghost use Rattle.std.specs.Prelude.{◌≡◌, ◌-◌, ◌<◌, ◌≤◌, ◌^◌, map, length, sum_by, count_by};
 ghost use Rattle.cp_statements.specs.View.{envelope_view};
 ghost use Rattle.cp_bytes.specs.Fields.{IsBytes};
-ghost use Rattle.cp_evidence.specs.AuditLaws.{IsMaterial};
+ghost use Rattle.cp_evidence.specs.AuditLaws.{IsMaterial, evidence_limit};
 ghost use Rattle.cp_evidence.specs.Audited.{audited};
 ghost use Rattle.cp_audit.specs.Counts.{is_of_epoch};
 ghost use Rattle.cp_audit.specs.Given.{given_view};
 ghost use Rattle.cp_audit.specs.Parts.{part_view};
-ghost use Rattle.cp_audit.specs.Verdicts.{GuiltyConvicts, IsAnswer};
+ghost use Rattle.cp_audit.specs.Verdicts.{GuiltyConvicts, GuiltyWithin, IsAnswer};
 ghost use Rattle.cp_audit.specs.View.{material_view};
 ghost use Rattle.cp_audit.specs.declared.verdict.Verdict.TheVariants.{Clean};
 
@@ -48,11 +48,13 @@ use std::alloc::Global;
 /// 10. kind 8: the first attestation of the epoch that doesn't stand in its block's segment; no text
 ///     stands beside one that is outside the counts.
 ///
-/// The evidence's bytes convict the store. Where nothing is found, the verdict is clean, with the number
+/// The evidence's bytes convict the store. They are at most 64 more than twice those of the closings and
+/// the hand-ins, and those of both tables, the families list and the log, together. Where nothing is found, the verdict is clean, with the number
 /// of the log's texts, of the hand-ins that verify as attestations of the epoch, and of all others.
 pub fn audit(alloc: Global, material: &Material, handins: &[u8]) -> Result<Verdict, AuditRefusal>
     ensures verdict { IsAnswer (audited (material_view material.now) handins.now) result }
     ensures convicts { GuiltyConvicts material.now.key result }
+    ensures is_short { GuiltyWithin (evidence_limit (material_view material.now) handins.now) result }
 {
     is_material(material);
     let o = match given(alloc, material) {

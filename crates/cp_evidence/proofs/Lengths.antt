@@ -1,165 +1,68 @@
--- The evidence that the audit finds has a spelling, where its tables and its families are short enough.
-use Rattle.std.proofs.Common.{◌≡◌, ℕ, ◌^◌, ◌<◌, ◌≤◌, Bool, true, false, cond, not, List, [], ◌∷◌, ◌++◌, length, map, Option, Some, None, Result, Ok, Err, refl, sym, subst, arith}
-use Rattle.std.specs.Prelude.{filter, option_map}
+-- The evidence that the audit finds has a spelling, where its tables and its families are short enough,
+-- and how many bytes it has at most.
+use Rattle.std.proofs.Common.{◌≡◌, ℕ, ◌+◌, ◌^◌, ◌<◌, ◌≤◌, List, [], ◌∷◌, ◌++◌, length, Option, Some, None, Result, Ok, Err, inl, inr, refl, sym, ap, subst, arith, length-append}
+use Rattle.std.specs.Prelude.{codes, flat_map}
+use Rattle.std.specs.Int.{w32, w64, to_be_bytes}
 use Rattle.std.specs.Result.{result_unwrap_or}
-use Rattle.std.specs.List.{AllByRecursion, find}
-use Rattle.cp_bytes.specs.Fields.{IsBytes}
-use Rattle.cp_statements.specs.Envelope.{Envelope, EnvelopeFits}
-use Rattle.cp_statements.specs.Attestation.{Attestation}
+use Rattle.std.specs.List.{AllByRecursion}
+use Rattle.cp_bytes.specs.Fields.{IsBytes, part}
+use Rattle.cp_statements.specs.Envelope.{Envelope, EnvelopeFits, envelope_text}
 use Rattle.cp_statements.proofs.Entries.{envelope_takes}
-use Rattle.cp_tips.specs.Table.{TableRow, TableFits, table_of, regressed}
+use Rattle.cp_tips.specs.Table.{TableRow, TableFits, table_of}
 use Rattle.cp_tips.proofs.Exact.{table_takes}
-use Rattle.cp_chain.specs.Log.{LogPart, LogPartFits}
-use Rattle.cp_chain.specs.Segment.{SegmentFits}
-use Rattle.cp_chain.specs.Rules.{Found, first_fault, first_of}
-use Rattle.cp_chain.proofs.Found.{first_found}
-use Rattle.cp_chain.proofs.Firsts.{broken_within, first_fault_least}
+use Rattle.cp_chain.specs.Log.{LogPart, Log, LogPartFits, log_part_text, log_text}
+use Rattle.cp_chain.specs.Rules.{number_of}
+use Rattle.cp_chain.specs.Segment.{SegmentFits, segment_text}
 use Rattle.cp_chain.proofs.Readings.{log_takes}
-use Rattle.cp_evidence.specs.Evidence.{Evidence, EvidenceFits}
+use Rattle.cp_evidence.specs.Evidence.{Two, ClosingTable, Given, WentBack, BrokenRule, Lost, Evidence, EvidenceFits, two_text, closing_table_text, given_text, went_back_text, broken_rule_text, lost_text, parts_text, evidence_text}
 use Rattle.cp_evidence.specs.Evidence.Evidence.{K1, K2, K3, K4, K5, K6, K7, K8, K9, K10}
-use Rattle.cp_evidence.specs.Conditions.{attestation_by, is_statement, is_outside}
 use Rattle.cp_evidence.specs.Presented.{envelopes}
-use Rattle.cp_evidence.specs.Material.{GivenEpoch, SignedClosing, no_envelope, envelope_before, rows_in_table, blocks_in, least_regressed, store_id, old_rows, new_rows, parts_or_none, segment_for, frame_for, before_in, is_formed, is_formed_before, list_of, closings, closing_envelopes, verified}
-use Rattle.cp_evidence.specs.Verdict.{has_wrong_head, is_other_closing, other_closing, same_leaf, same_place, clash, framing, evidence_if, link_is_wrong, fault_in, is_lost, segment_beside, lost_evidence, guilt}
-use Rattle.cp_evidence.specs.AuditLaws.{LongPartsFit, GuiltFits, hashed_by}
-use Rattle.cp_evidence.proofs.Searches.{all_always, all_append, all_filter, mapped_all, map_some, if_some, least_is}
-use Rattle.cp_evidence.proofs.GivenFacts.{CameFrom, given_facts, came_from, part_found}
-use Rattle.cp_evidence.proofs.Guilts.{Shows, guilt_shows, step, nothing, texts_or_none, broken_rule}
+use Rattle.cp_evidence.specs.HandIns.{hand_ins_text}
+use Rattle.cp_evidence.specs.Material.{Material, GivenEpoch, SignedClosing, no_envelope, envelope_before, rows_in_table, blocks_in, parts_or_none, list_of, closings, closing_envelopes}
+use Rattle.cp_evidence.specs.Verdict.{framing}
+use Rattle.cp_evidence.specs.AuditLaws.{LongPartsFit, GuiltFits, GuiltIsShort, evidence_limit, hashed_by}
+use Rattle.cp_evidence.proofs.Searches.{all_always, all_map, all_append, mapped_all}
+use Rattle.cp_evidence.proofs.GivenFacts.{CameFrom, given_facts, came_from}
+use Rattle.cp_evidence.proofs.Guilts.{Shows, guilt_shows}
 use Rattle.cp_evidence.proofs.ReadingHandIns.{hand_ins_exact}
 use Rattle.cp_evidence.proofs.AuditLemmas.{sources}
+use Rattle.cp_evidence.proofs.Rests.{Holds, Rest, rest}
 
--- ---- what is not an envelope
+-- ---- it has a spelling
 
-abbrev RestFits : Evidence → Type 0
-RestFits (K1 e) = Unit {0}
-RestFits (K2 e) = Unit {0}
-RestFits (K3 e) = Unit {0}
-RestFits (K4 e) = Unit {0}
-RestFits (K5 e) = Unit {0}
-RestFits (K6 e) = e.block < 2 ^ 64
-RestFits (K7 e) = (e.block < 2 ^ 64) × (e.fault.place < 2 ^ 64) × (e.fault.other < 2 ^ 64) × SegmentFits e.segment
-RestFits (K8 e) = SegmentFits e.segment
-RestFits (K9 x) = Unit {0}
-RestFits (K10 x) = Unit {0}
+abbrev Small : ℕ → Type 0
+Small block = block < 2 ^ 64
 
-fits_whole : (e : Evidence) → AllByRecursion EnvelopeFits (envelopes e) → RestFits e → LongPartsFit e → EvidenceFits e
-fits_whole (K1 e) all rest long = (all.0, all.1.0)
-fits_whole (K2 e) all rest long = (all.0, all.1.0)
-fits_whole (K3 e) all rest long = (all.0, all.1.0)
-fits_whole (K4 e) all rest long = (all.0, long)
-fits_whole (K5 e) all rest long = (all.0, all.1.0)
-fits_whole (K6 e) all rest long = (rest, (all.0, all.1.0, long.0, long.1))
-fits_whole (K7 e) all rest long = (rest.0, rest.1, rest.2, (all.0, all.1.0, long.0, long.1), long.2, rest.3)
-fits_whole (K8 e) all rest long = ((all.0, all.1.0, long.0, long.1), all.1.1.0, rest)
-fits_whole (K9 x) all rest long = all.0
-fits_whole (K10 x) all rest long = all.0
+fits_whole : (o : GivenEpoch) (e : Evidence) → AllByRecursion EnvelopeFits (envelopes e) → Rest o Small SegmentFits e → LongPartsFit e → EvidenceFits e
+fits_whole o (K1 e) all r long = (all.0, all.1.0)
+fits_whole o (K2 e) all r long = (all.0, all.1.0)
+fits_whole o (K3 e) all r long = (all.0, all.1.0)
+fits_whole o (K4 e) all r long = (all.0, long)
+fits_whole o (K5 e) all r long = (all.0, all.1.0)
+fits_whole o (K6 e) all r long = (r.0, (all.0, all.1.0, long.0, long.1))
+fits_whole o (K7 e) all r long =
+    let few : length e.segment < 2 ^ 32 = r.5.0 in
+    let near : e.fault.place ≤ length e.segment = r.1 in
+    let nearer : e.fault.other ≤ e.fault.place = r.2 in
+    (r.0, omega (arith, few, near), omega (arith, few, near, nearer), (all.0, all.1.0, long.0, long.1), long.2, r.5)
+fits_whole o (K8 e) all r long = ((all.0, all.1.0, long.0, long.1), all.1.1.0, r.1)
+fits_whole o (K9 x) all r long = all.0
+fits_whole o (K10 x) all r long = all.0
 
-record Short (o : GivenEpoch) : Type 0 where
-  blocks : AllByRecursion (λ b. b < 2 ^ 64) (blocks_in (old_rows o))
-  log : AllByRecursion LogPartFits (parts_or_none o.log)
-
--- ---- by rows
-
-row_k6 : (o : GivenEpoch) (ev : Evidence) → Short o → option_map (λ (b : ℕ). K6 (record { block = b; given = framing o })) (least_regressed (old_rows o) (new_rows o)) ≡ Some ev → RestFits ev
-unfolding least_regressed
-row_k6 o ev s e =
-    let b = map_some (λ (b : ℕ). K6 (record { block = b; given = framing o })) (least_regressed (old_rows o) (new_rows o)) ev e in
-    let small : b.0 < 2 ^ 64 = least_is (λ (c : ℕ). c < 2 ^ 64) (filter (regressed (old_rows o) (new_rows o)) (blocks_in (old_rows o))) b.0 (all_filter (λ (c : ℕ). c < 2 ^ 64) (regressed (old_rows o) (new_rows o)) (blocks_in (old_rows o)) s.blocks) b.1 in
-    subst RestFits b.2 small
-
-row_k7 : (o : GivenEpoch) (ev : Evidence) → Short o → first_of (map (fault_in o) (parts_or_none o.log)) ≡ Some ev → RestFits ev
-row_k7 o ev s e =
-    let p = first_found LogPartFits (fault_in o) (parts_or_none o.log) ev s.log e in
-    let part : LogPart = p.0 in
-    let b = map_some (broken_rule o part) (first_fault (frame_for o part.block) part.texts) ev p.2 in
-    let x : Found = b.0 in
-    let w = broken_within (frame_for o part.block) part.texts x.rule x.place x.other (first_fault_least (frame_for o part.block) part.texts x b.1).is_broken in
-    let few : length part.texts < 2 ^ 32 = p.1.1.0 in
-    let near : x.place ≤ length part.texts = w.0 in
-    let nearer : x.other ≤ x.place = w.1 in
-    subst RestFits b.2 (p.1.0, omega (arith, few, near), omega (arith, few, near, nearer), p.1.1)
-
-row_k8 : (o : GivenEpoch) (vs : List Envelope) (ev : Evidence) → Short o → option_map (lost_evidence o) (find (is_lost o) vs) ≡ Some ev → RestFits ev
-row_k8 o vs ev s e =
-    let b = map_some (lost_evidence o) (find (is_lost o) vs) ev e in
-    subst RestFits b.2 (texts (attestation_by (store_id o) (b.0).text))
-  where
-    none : SegmentFits []
-    none = (omega arith, tt)
-
-    found : (a : Attestation) (seg : Option (List (List ℕ))) → segment_for o a.block ≡ seg → SegmentFits (texts_or_none seg)
-    found a None e = none
-    found a (Some ts) e = (part_found (λ (b : ℕ) (l : List (List ℕ)). (b < 2 ^ 64) × SegmentFits l) (parts_or_none o.log) a.block ts s.log e).1
-
-    kept : (out : Bool) (a : Attestation) → SegmentFits (cond out [] (texts_or_none (segment_for o a.block)))
-    kept true a = none
-    kept false a = found a (segment_for o a.block) refl
-
-    texts : (r : Option Attestation) → SegmentFits (segment_beside o r)
-    texts None = none
-    texts (Some a) = kept (is_outside (frame_for o a.block) a) a
-
-plain : {A : Type 0} (make : A → Evidence) (o : Option A) (ev : Evidence) → ((x : A) → RestFits (make x)) → option_map make o ≡ Some ev → RestFits ev
-plain make o ev h e = let b = map_some make o ev e in subst RestFits b.2 (h b.0)
-
-row_k3 : (o : GivenEpoch) (vs : List Envelope) (ev : Evidence) → first_of (map (other_closing o) vs) ≡ Some ev → RestFits ev
-row_k3 o vs ev e =
-    let x = first_found (λ (x : Envelope). Unit {0}) (other_closing o) vs ev (all_always (λ (x : Envelope). Unit {0}) (λ x. tt) vs) e in
-    plain (λ (c : SignedClosing). K3 (record { x = c.envelope; y = x.0 })) (find (is_other_closing (store_id o) x.0) (closings o)) ev (λ c. tt) x.2
-
-row_k10 : (o : GivenEpoch) (vs : List Envelope) (ev : Evidence) → option_map K10 (find ((λ x. not (is_statement (store_id o) x.text))) vs) ≡ Some ev → RestFits ev
-row_k10 o vs ev = plain K10 (find ((λ x. not (is_statement (store_id o) x.text))) vs) ev (λ x. tt)
-
-row_k9 : (o : GivenEpoch) (vs : List Envelope) (ev : Evidence) → option_map K9 (find (has_wrong_head (store_id o)) vs) ≡ Some ev → RestFits ev
-row_k9 o vs ev = plain K9 (find (has_wrong_head (store_id o)) vs) ev (λ x. tt)
-
-row_k2 : (o : GivenEpoch) (vs : List Envelope) (ev : Evidence) → option_map (λ (p : Envelope × Envelope). K2 (record { x = p.0; y = p.1 })) (clash same_leaf [] (closing_envelopes o ++ vs)) ≡ Some ev → RestFits ev
-row_k2 o vs ev = plain (λ (p : Envelope × Envelope). K2 (record { x = p.0; y = p.1 })) (clash same_leaf [] (closing_envelopes o ++ vs)) ev (λ p. tt)
-
-row_k1 : (o : GivenEpoch) (vs : List Envelope) (ev : Evidence) → option_map (λ (p : Envelope × Envelope). K1 (record { x = p.0; y = p.1 })) (clash (same_place (store_id o)) [] vs) ≡ Some ev → RestFits ev
-row_k1 o vs ev = plain (λ (p : Envelope × Envelope). K1 (record { x = p.0; y = p.1 })) (clash (same_place (store_id o)) [] vs) ev (λ p. tt)
-
-row_k5 : (o : GivenEpoch) (ev : Evidence) → evidence_if (link_is_wrong o) (K5 (record { x = o.closing.envelope; y = envelope_before o.before })) ≡ Some ev → RestFits ev
-row_k5 o ev e = subst RestFits (if_some (link_is_wrong o) (K5 (record { x = o.closing.envelope; y = envelope_before o.before })) ev e).1 tt
-
-row_kb : (o : GivenEpoch) (ev : Evidence) → evidence_if (not (is_formed_before o.table_before (before_in o.before))) (K4 (record { closing = envelope_before o.before; table = o.table_before })) ≡ Some ev → RestFits ev
-row_kb o ev e = subst RestFits (if_some (not (is_formed_before o.table_before (before_in o.before))) (K4 (record { closing = envelope_before o.before; table = o.table_before })) ev e).1 tt
-
-row_k4 : (o : GivenEpoch) (ev : Evidence) → evidence_if (not (is_formed o.table o.closing.closing)) (K4 (record { closing = o.closing.envelope; table = o.table })) ≡ Some ev → RestFits ev
-row_k4 o ev e = subst RestFits (if_some (not (is_formed o.table o.closing.closing)) (K4 (record { closing = o.closing.envelope; table = o.table })) ev e).1 tt
-
-rest_fits : (o : GivenEpoch) (hand_ins : List Envelope) (ev : Evidence) → Short o → guilt o hand_ins ≡ Some ev → RestFits ev
-unfolding guilt
-rest_fits o hand_ins ev s =
-    let vs : List Envelope = verified o hand_ins in
-    step _ _ ev (row_k10 o vs ev) (λ n10.
-    step _ _ ev (row_k9 o vs ev) (λ n9.
-    step _ _ ev (row_k3 o vs ev) (λ n3.
-    step _ _ ev (row_k2 o vs ev) (λ n2.
-    step _ _ ev (row_k1 o vs ev) (λ n1.
-    step _ _ ev (row_k5 o ev) (λ n5.
-    step _ _ ev (row_kb o ev) (λ nb.
-    step _ _ ev (row_k4 o ev) (λ nt.
-    step _ _ ev (row_k6 o ev s) (λ n6.
-    step _ _ ev (row_k7 o ev s) (λ n7.
-    step _ _ ev (row_k8 o vs ev s) (λ n8. nothing ev)))))))))))
-
--- ---- what was read from bytes
-
-blocks_fit : (rows : List TableRow) → TableFits rows → AllByRecursion (λ b. b < 2 ^ 64) (blocks_in rows)
+blocks_fit : (rows : List TableRow) → TableFits rows → AllByRecursion Small (blocks_in rows)
 blocks_fit [] all = tt
 blocks_fit (r ∷ rows) all = (all.0.0, blocks_fit rows all.1)
 
-table_blocks : (bytes : List ℕ) → IsBytes bytes → AllByRecursion (λ b. b < 2 ^ 64) (blocks_in (rows_in_table bytes))
+table_blocks : (bytes : List ℕ) → IsBytes bytes → AllByRecursion Small (blocks_in (rows_in_table bytes))
 table_blocks bytes fits = go (table_of bytes) refl
   where
-    go : (r : Result (List TableRow) ℕ) → table_of bytes ≡ r → AllByRecursion (λ b. b < 2 ^ 64) (blocks_in (result_unwrap_or r []))
+    go : (r : Result (List TableRow) ℕ) → table_of bytes ≡ r → AllByRecursion Small (blocks_in (result_unwrap_or r []))
     go (Err d) e = tt
     go (Ok rows) e = blocks_fit rows (table_takes bytes rows fits e).1
 
 pub guilt_fits : GuiltFits
 guilt_fits m o bytes hand_ins ev is_bytes hand_in_bytes e reads g long =
-    fits_whole ev shows.all_given (rest_fits o hand_ins ev short g) long
+    fits_whole o ev shows.all_given (rest o Small SegmentFits holds hand_ins ev g) long
   where
     from : CameFrom m o
     from = came_from m o e
@@ -168,10 +71,11 @@ guilt_fits m o bytes hand_ins ev is_bytes hand_in_bytes e reads g long =
     log_fits None is = tt
     log_fits (Some parts) is = let l = from.log parts is in subst (λ (ps : List LogPart). AllByRecursion LogPartFits ps) l.2 (log_takes m.log l.0 is_bytes.log l.1).1.3
 
-    short : Short o
-    short = record {
-      blocks = subst (λ (t : List ℕ). AllByRecursion (λ b. b < 2 ^ 64) (blocks_in (rows_in_table t))) (sym from.table_before) (table_blocks m.table_before is_bytes.table_before);
+    holds : Holds o Small SegmentFits
+    holds = record {
+      blocks = subst (λ (t : List ℕ). AllByRecursion Small (blocks_in (rows_in_table t))) (sym from.table_before) (table_blocks m.table_before is_bytes.table_before);
       log = log_fits o.log refl;
+      none = (omega arith, tt);
     }
 
     closings_fit : (b : Option SignedClosing) → o.before ≡ b → AllByRecursion (λ c. EnvelopeFits c.envelope) (list_of b ++ o.closing ∷ [])
@@ -186,3 +90,197 @@ guilt_fits m o bytes hand_ins ev is_bytes hand_in_bytes e reads g long =
 
     shows : Shows o.key EnvelopeFits (λ t. Unit {0}) ev
     shows = guilt_shows o hand_ins EnvelopeFits (λ t. Unit {0}) ev (given_facts m o e) (sources o hand_ins EnvelopeFits (λ t. Unit {0}) none all_fit (all_always (λ (t : List ℕ). Unit {0}) (λ t. tt) (hashed_by o hand_ins))) g
+
+-- ---- how many bytes it has
+
+part_size : (bytes : List ℕ) → length (part bytes) ≡ 4 + length bytes
+part_size bytes = length-append (to_be_bytes w32 (length bytes)) bytes
+
+behind_number : (n : ℕ) (bytes : List ℕ) → length (to_be_bytes w64 n ++ bytes) ≡ 8 + length bytes
+behind_number n bytes = length-append (to_be_bytes w64 n) bytes
+
+two_size : (e : Two) → length (two_text e) ≡ length (envelope_text e.x) + length (envelope_text e.y)
+unfolding two_text
+two_size e = length-append (envelope_text e.x) (envelope_text e.y)
+
+closing_table_size : (e : ClosingTable) → length (closing_table_text e) ≡ length (envelope_text e.closing) + (4 + length e.table)
+unfolding closing_table_text
+closing_table_size e = omega (arith, length-append (envelope_text e.closing) (part e.table), part_size e.table)
+
+given_size : (g : Given) → length (given_text g) ≡ length (envelope_text g.closing) + (length (envelope_text g.before) + ((4 + length g.table) + (4 + length g.table_before)))
+unfolding given_text
+given_size g =
+    let tables : List ℕ = part g.table ++ part g.table_before in
+    omega (arith, length-append (envelope_text g.closing) (envelope_text g.before ++ tables), length-append (envelope_text g.before) tables, length-append (part g.table) (part g.table_before), part_size g.table, part_size g.table_before)
+
+went_back_size : (e : WentBack) → length (went_back_text e) ≡ 8 + length (given_text e.given)
+unfolding went_back_text
+went_back_size e = behind_number e.block (given_text e.given)
+
+broken_rule_size : (e : BrokenRule) → length (broken_rule_text e) ≡ 32 + (length (given_text e.given) + ((4 + length e.families) + length (segment_text e.segment)))
+unfolding broken_rule_text
+broken_rule_size e =
+    let long : List ℕ = part e.families ++ segment_text e.segment in
+    let behind : List ℕ = given_text e.given ++ long in
+    let third : List ℕ = to_be_bytes w64 e.fault.other ++ behind in
+    let second : List ℕ = to_be_bytes w64 e.fault.place ++ third in
+    let first : List ℕ = to_be_bytes w64 (number_of e.fault.rule) ++ second in
+    omega (arith, behind_number e.block first, behind_number (number_of e.fault.rule) second, behind_number e.fault.place third, behind_number e.fault.other behind, length-append (given_text e.given) long, length-append (part e.families) (segment_text e.segment), part_size e.families)
+
+lost_size : (e : Lost) → length (lost_text e) ≡ length (given_text e.given) + (length (envelope_text e.attestation) + length (segment_text e.segment))
+unfolding lost_text
+lost_size e = omega (arith, length-append (given_text e.given) (envelope_text e.attestation ++ segment_text e.segment), length-append (envelope_text e.attestation) (segment_text e.segment))
+
+evidence_size : (e : Evidence) → length (evidence_text e) ≡ 5 + length (parts_text e)
+unfolding evidence_text
+evidence_size e = omega arith
+
+-- each of these texts is no longer than all of them
+each_within : {A : Type 0} (f : A → List ℕ) (n : ℕ) (xs : List A) → length (flat_map f xs) ≤ n → AllByRecursion (λ x. length (f x) ≤ n) xs
+each_within f n [] le = tt
+each_within f n (x ∷ xs) le =
+    let both = length-append (f x) (flat_map f xs) in
+    (omega (arith, le, both), each_within f n xs (omega (arith, le, both)))
+
+segment_within : (p : LogPart) → length (segment_text p.texts) ≤ length (log_part_text p)
+unfolding log_part_text
+segment_within p = omega (arith, behind_number p.block (segment_text p.texts))
+
+parts_within : (l : Log) → length (flat_map log_part_text l.parts) ≤ length (log_text l)
+unfolding log_text
+parts_within l =
+    let parts : List ℕ = flat_map log_part_text l.parts in
+    let counted : List ℕ = to_be_bytes w32 (length l.parts) ++ parts in
+    omega (arith, length-append (codes "CPl1") (to_be_bytes w64 l.epoch ++ counted), behind_number l.epoch counted, length-append (to_be_bytes w32 (length l.parts)) parts)
+
+-- the sizes of the given parts, in those of the material
+record Sizes (m : Material) (o : GivenEpoch) : Type 0 where
+  closing : length (envelope_text o.closing.envelope) ≤ length m.closing
+  before : length (envelope_text (envelope_before o.before)) ≤ 8 + length m.before
+  families : length o.families_text ≡ length m.families
+  table : length o.table ≡ length m.table
+  table_before : length o.table_before ≡ length m.table_before
+
+framing_within : (m : Material) (o : GivenEpoch) (g : Given) → Sizes m o → g ≡ framing o → length (given_text g) ≤ 16 + (length m.closing + (length m.before + (length m.table + length m.table_before)))
+framing_within m o g s is =
+    let same : length (given_text g) ≡ length (given_text (framing o)) = ap (λ (z : Given). length (given_text z)) is in
+    let size = given_size (framing o) in
+    let closing = s.closing in
+    let before = s.before in
+    let table = s.table in
+    let table_before = s.table_before in
+    omega (arith, same, size, closing, before, table, table_before)
+
+-- at most as long as each envelope of the evidence
+abbrev envelope_limit : Material → List ℕ → ℕ
+envelope_limit m bytes = 8 + (length m.closing + (length m.before + length bytes))
+
+abbrev Within : Material → List ℕ → Envelope → Type 0
+Within m bytes x = length (envelope_text x) ≤ envelope_limit m bytes
+
+abbrev Any : ℕ → Type 0
+Any block = Unit {0}
+
+abbrev InLog : Material → List (List ℕ) → Type 0
+InLog m ts = length (segment_text ts) ≤ 4 + length m.log
+
+no_envelope_size : length (envelope_text no_envelope) ≡ 8
+unfolding envelope_text
+no_envelope_size = refl
+
+none_within : (m : Material) → InLog m []
+unfolding segment_text
+none_within m = omega arith
+
+two_within : (m : Material) (bytes : List ℕ) (e : Two) → Within m bytes e.x → Within m bytes e.y → 5 + length (two_text e) ≤ evidence_limit m bytes
+two_within m bytes e x y = let size = two_size e in omega (arith, size, x, y)
+
+parts_short : (m : Material) (o : GivenEpoch) (bytes : List ℕ) (e : Evidence) → Sizes m o → AllByRecursion (Within m bytes) (envelopes e) → Rest o Any (InLog m) e → 5 + length (parts_text e) ≤ evidence_limit m bytes
+parts_short m o bytes (K1 e) s all r = two_within m bytes e all.0 all.1.0
+parts_short m o bytes (K2 e) s all r = two_within m bytes e all.0 all.1.0
+parts_short m o bytes (K3 e) s all r = two_within m bytes e all.0 all.1.0
+parts_short m o bytes (K4 e) s all r =
+    let size = closing_table_size e in
+    let closing : Within m bytes e.closing = all.0 in
+    let now = s.table in
+    let before = s.table_before in
+    elim r [
+      | inl is ↦ let same : length e.table ≡ length o.table = ap length is in omega (arith, size, closing, now, same)
+      | inr is ↦ let same : length e.table ≡ length o.table_before = ap length is in omega (arith, size, closing, before, same)
+    ]
+parts_short m o bytes (K5 e) s all r = two_within m bytes e all.0 all.1.0
+parts_short m o bytes (K6 e) s all r = let size = went_back_size e in let given = framing_within m o e.given s r.1 in omega (arith, size, given)
+parts_short m o bytes (K7 e) s all r =
+    let size = broken_rule_size e in
+    let given = framing_within m o e.given s r.3 in
+    let same : length e.families ≡ length o.families_text = ap length r.4 in
+    let families = s.families in
+    let segment : InLog m e.segment = r.5 in
+    omega (arith, size, given, same, families, segment)
+parts_short m o bytes (K8 e) s all r =
+    let size = lost_size e in
+    let given = framing_within m o e.given s r.0 in
+    let attestation : Within m bytes e.attestation = all.1.1.0 in
+    let segment : InLog m e.segment = r.1 in
+    omega (arith, size, given, attestation, segment)
+parts_short m o bytes (K9 x) s all r = let one : Within m bytes x = all.0 in omega (arith, one)
+parts_short m o bytes (K10 x) s all r = let one : Within m bytes x = all.0 in omega (arith, one)
+
+pub guilt_short : GuiltIsShort
+unfolding hand_ins_text
+guilt_short m o bytes hand_ins ev is_bytes hand_in_bytes e reads g =
+    let size = evidence_size ev in
+    let parts = parts_short m o bytes ev sizes shows.all_given (rest o Any (InLog m) holds hand_ins ev g) in
+    omega (arith, size, parts)
+  where
+    from : CameFrom m o
+    from = came_from m o e
+
+    closing_size : length (envelope_text o.closing.envelope) ≡ length m.closing
+    closing_size = ap length (sym (envelope_takes m.closing o.closing.envelope is_bytes.closing from.closing).0)
+
+    before_size : (c : SignedClosing) → o.before ≡ Some c → length (envelope_text c.envelope) ≡ length m.before
+    before_size c is = ap length (sym (envelope_takes m.before c.envelope is_bytes.before (from.before c is)).0)
+
+    before_within : (b : Option SignedClosing) → o.before ≡ b → length (envelope_text (envelope_before b)) ≤ 8 + length m.before
+    before_within None is = let size = no_envelope_size in omega (arith, size)
+    before_within (Some c) is = let size = before_size c is in omega (arith, size)
+
+    sizes : Sizes m o
+    sizes = record {
+      closing = let size = closing_size in omega (arith, size);
+      before = before_within o.before refl;
+      families = ap length from.families;
+      table = ap length from.table;
+      table_before = ap length from.table_before;
+    }
+
+    log_within : (log : Option (List LogPart)) → o.log ≡ log → AllByRecursion (λ p. Any p.block × InLog m p.texts) (parts_or_none log)
+    log_within None is = tt
+    log_within (Some parts) is =
+        let l = from.log parts is in
+        let whole : length m.log ≡ length (log_text l.0) = ap length (log_takes m.log l.0 is_bytes.log l.1).0 in
+        let all = parts_within l.0 in
+        let each = each_within log_part_text (length m.log) (l.0).parts (omega (arith, whole, all)) in
+        subst (λ (ps : List LogPart). AllByRecursion (λ p. Any p.block × InLog m p.texts) ps) l.2
+        (all_map (λ (p : LogPart). length (log_part_text p) ≤ length m.log) (λ (p : LogPart). Any p.block × InLog m p.texts) (λ p le. (tt, let within = segment_within p in omega (arith, within, le))) (l.0).parts each)
+
+    holds : Holds o Any (InLog m)
+    holds = record { blocks = all_always Any (λ b. tt) (blocks_in (rows_in_table o.table_before)); log = log_within o.log refl; none = none_within m }
+
+    closings_within : (b : Option SignedClosing) → o.before ≡ b → AllByRecursion (λ c. Within m bytes c.envelope) (list_of b ++ o.closing ∷ [])
+    closings_within None is = (let size = closing_size in omega (arith, size), tt)
+    closings_within (Some c) is = (let size = before_size c is in omega (arith, size), (let size = closing_size in omega (arith, size), tt))
+
+    hand_ins_size : length bytes ≡ length (flat_map envelope_text hand_ins)
+    hand_ins_size = ap length (hand_ins_exact.read_is_spelled bytes hand_ins hand_in_bytes reads).0
+
+    handed_within : AllByRecursion (Within m bytes) hand_ins
+    handed_within =
+        let all = hand_ins_size in
+        all_map (λ (x : Envelope). length (envelope_text x) ≤ length bytes) (Within m bytes) (λ x le. omega (arith, le)) hand_ins (each_within envelope_text (length bytes) hand_ins (omega (arith, all)))
+
+    shows : Shows o.key (Within m bytes) (λ t. Unit {0}) ev
+    shows =
+        let all : AllByRecursion (Within m bytes) (closing_envelopes o ++ hand_ins) = all_append (Within m bytes) (closing_envelopes o) hand_ins (mapped_all (Within m bytes) (λ c. c.envelope) (closings o) (closings_within o.before refl)) handed_within in
+        guilt_shows o hand_ins (Within m bytes) (λ t. Unit {0}) ev (given_facts m o e) (sources o hand_ins (Within m bytes) (λ t. Unit {0}) (let size = no_envelope_size in omega (arith, size)) all (all_always (λ (t : List ℕ). Unit {0}) (λ t. tt) (hashed_by o hand_ins))) g

@@ -1,5 +1,5 @@
 -- The statements of the laws on the audit.
-use Rattle.std.specs.Prelude.{ℕ, ◌-◌, ◌≡◌, ◌⊎◌, ◌↔◌, true, List, [], ◌∷◌, ◌++◌, take, flat_map, Option, Some, None, ◌==◌, if◌then◌else◌, Ok, Contains}
+use Rattle.std.specs.Prelude.{ℕ, ◌+◌, ◌-◌, ◌*◌, ◌≤◌, ◌≡◌, ◌⊎◌, ◌↔◌, true, List, [], ◌∷◌, ◌++◌, length, take, flat_map, Option, Some, None, ◌==◌, if◌then◌else◌, Ok, Contains}
 use Rattle.std.specs.Option.{option_map_or}
 use Rattle.std.specs.List.{AllByRecursion}
 use Rattle.cp_bytes.specs.Fields.{IsBytes}
@@ -89,6 +89,16 @@ LongPartsFit (K10 x) = Unit {0}
 abbrev pub GuiltFits : Type 0
 GuiltFits = (m : Material) (o : GivenEpoch) (bytes : List ℕ) (hand_ins : List Envelope) (e : Evidence) → IsMaterial m → IsBytes bytes
     → given_of m ≡ Ok o → hand_ins_of bytes ≡ Ok hand_ins → guilt o hand_ins ≡ Some e → LongPartsFit e → EvidenceFits e
+
+-- as many bytes as twice the closings and the hand-ins, both tables, the families list and the log have,
+-- and some more for numbers
+abbrev pub evidence_limit : Material → List ℕ → ℕ
+evidence_limit m bytes = 64 + (2 * (length m.closing + (length m.before + length bytes)) + (length m.table + (length m.table_before + (length m.families + length m.log))))
+
+-- It is no longer than that.
+abbrev pub GuiltIsShort : Type 0
+GuiltIsShort = (m : Material) (o : GivenEpoch) (bytes : List ℕ) (hand_ins : List Envelope) (e : Evidence) → IsMaterial m → IsBytes bytes
+    → given_of m ≡ Ok o → hand_ins_of bytes ≡ Ok hand_ins → guilt o hand_ins ≡ Some e → length (evidence_text e) ≤ evidence_limit m bytes
 
 -- ---- what gets return
 

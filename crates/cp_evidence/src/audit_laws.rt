@@ -1,6 +1,6 @@
 //! The laws on the audit: what its verdict means, and what its evidence is worth. Each is the contract
 //! of a function with an empty body.
-ghost use Rattle.cp_evidence.specs.AuditLaws.{CleanExactly, GetsAreLatest, GuiltConvicts, GuiltFits, GuiltIsGiven, GuiltIsHashed, WrittenConvicts};
+ghost use Rattle.cp_evidence.specs.AuditLaws.{CleanExactly, GetsAreLatest, GuiltConvicts, GuiltFits, GuiltIsGiven, GuiltIsHashed, GuiltIsShort, WrittenConvicts};
 
 /// Of given material no guilt is found exactly where it is sound and each hand-in that verifies fits it.
 pub fn clean_exactly()
@@ -17,10 +17,12 @@ pub fn guilt_convicts()
 {}
 
 /// The bytes of what the audit finds convict, where it has a spelling. It has one where its tables and
-/// its families list have fewer than 2^32 bytes each.
+/// its families list have fewer than 2^32 bytes each. They are at most 64 more than twice those of the
+/// closings and the hand-ins, and those of both tables, the families list and the log, together.
 pub fn written_convicts()
     ensures convicts { WrittenConvicts }
     ensures fits { GuiltFits }
+    ensures is_short { GuiltIsShort }
 {}
 
 /// In a clean epoch each get of the epoch whose attestation was handed in returned the latest put before

@@ -6,3 +6,4 @@ pub mod SegmentsOfLife
 pub mod NoFraming
 pub mod HonestLemmas
 pub mod OwnLemmas
+pub mod OwnMaterial

@@ -4,5 +4,5 @@
 mod audit_laws;
 mod laws;
 
-pub use audit_laws::{honest_is_clean, own_is_clean};
+pub use audit_laws::{honest_is_clean, own_is_clean, own_is_given};
 pub use laws::{no_run_is_framed, unframeable};

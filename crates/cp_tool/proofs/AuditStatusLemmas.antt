@@ -1,5 +1,5 @@
 -- What the status of `audit` says.
-use Rattle.std.proofs.Common.{◌≡◌, ◌⊎◌, inl, inr, ℕ, ◌<◌, Bool, true, false, cond, List, Option, Some, None, Result, Ok, Err, refl, sym, ap, ◌∙◌, subst, arith}
+use Rattle.std.proofs.Common.{◌≡◌, ◌⊎◌, inl, inr, ℕ, ◌<◌, ◌≤◌, Bool, true, false, cond, List, length, Option, Some, None, Result, Ok, Err, refl, sym, ap, ◌∙◌, subst, arith}
 use Rattle.std.specs.Prelude.{IsTrue}
 use Rattle.std.proofs.lemmas.Bool.{false≢true}
 use Rattle.cp_bytes.specs.Fields.{◌>>=◌}
@@ -10,15 +10,18 @@ use Rattle.cp_evidence.specs.Audited.{audited, audited_given}
 use Rattle.cp_evidence.specs.Conditions.{Convicts}
 use Rattle.cp_evidence.specs.Evidence.{Evidence, evidence_text}
 use Rattle.cp_evidence.specs.HandIns.{hand_ins_of}
-use Rattle.cp_evidence.specs.Material.{GivenEpoch, What, given_of}
+use Rattle.cp_evidence.specs.Material.{GivenEpoch, What, given_of, closing_envelopes}
 use Rattle.cp_evidence.specs.Sound as sound
 use Rattle.cp_evidence.specs.Verdict.{guilt, verdict_by}
 use Rattle.cp_evidence.proofs.AuditLemmas.{clean_exact}
 use Rattle.cp_evidence.proofs.GivenFacts.{given_all}
+use Rattle.cp_evidence.proofs.Searches.{all_append}
+use Rattle.cp_guilt.specs.Framing.{WasSigned}
 use Rattle.cp_guilt.proofs.HonestLemmas.{honest_clean}
 use Rattle.cp_guilt.proofs.OwnLemmas.{own_clean}
+use Rattle.cp_guilt.proofs.OwnMaterial.{own_given}
 use Rattle.cp_tool.specs.AuditRuns.{AnswerEnds, AuditEnds, Sources, answered, files_in, sources_of, verdict_of}
-use Rattle.cp_tool.specs.AuditStatus.{AuditStatus, IsHonest, IsOwn, Readable}
+use Rattle.cp_tool.specs.AuditStatus.{AuditStatus, IsHandedOut, IsHonest, IsOwn, Readable}
 use Rattle.cp_commands.specs.AuditWords.{AuditWords}
 use Rattle.cp_commands.specs.Commands.{Command}
 use Rattle.cp_commands.specs.Commands.Command.{Audit}
@@ -67,6 +70,15 @@ module _ (sources : Sources) where
     own_there : (x : Readable sources) → IsOwn sources x → sound.Clean x.epoch x.hand_ins
     own_there x h = let l = h.life in own_clean l.store l.chronicle sources.material x.epoch x.hand_ins l.id x.given l.honest l.signed h.own
 
+  -- what an honest store handed out is given, and clean
+  handed_out : (hand_ins : List Envelope) → hand_ins_of sources.hand_ins ≡ Ok hand_ins → IsHandedOut sources hand_ins → (x : Readable sources) × sound.Clean x.epoch x.hand_ins
+  handed_out hand_ins read h =
+      let g = own_given h.store h.chronicle sources.material h.id h.honest h.own in
+      let o : GivenEpoch = g.0 in (
+        record { epoch = o; hand_ins = hand_ins; given = g.1; read = read },
+        own_clean h.store h.chronicle sources.material o hand_ins h.id g.1 h.honest (all_append (WasSigned h.store h.chronicle sources.material.key) (closing_envelopes o) hand_ins g.3 h.signed) g.2,
+      )
+
   -- ---- what the status says
 
   module _ (evidence : Option (List ℕ)) (status : ℕ) where
@@ -80,6 +92,7 @@ module _ (sources : Sources) where
       where_guilty = λ x c. inr high;
       where_honest = λ x h. inr high;
       where_own = λ x h. inr high;
+      where_handed_out = λ xs read h. inr high;
     }
       where
         not : (status ≡ 4) ⊎ (status ≡ 5) → (n : ℕ) → status ≡ n → (n < 4) → ⊥
@@ -96,6 +109,7 @@ module _ (sources : Sources) where
       where_guilty = λ x c. absurd (unreadable x);
       where_honest = λ x h. absurd (unreadable x);
       where_own = λ x h. absurd (unreadable x);
+      where_handed_out = λ xs read h. absurd (unreadable (handed_out xs read h).0);
     }
 
     module _ (o : GivenEpoch) (hand_ins : List Envelope) (given : given_of sources.material ≡ Ok o) (read : hand_ins_of sources.hand_ins ≡ Ok hand_ins) where
@@ -109,18 +123,20 @@ module _ (sources : Sources) where
         where_guilty = λ x not. absurd (not (clean_there o hand_ins given read none x));
         where_honest = λ x h. inl zero_is;
         where_own = λ x h. inl zero_is;
+        where_handed_out = λ xs read h. inl zero_is;
       }
 
-      when_guilty : (e : Evidence) → guilt o hand_ins ≡ Some e → status ≡ 1 → evidence ≡ Some (evidence_text e) → Convicts sources.material.key (evidence_text e) → AuditStatus sources evidence status
-      when_guilty found some one written convicts = record {
+      when_guilty : (e : Evidence) → guilt o hand_ins ≡ Some e → status ≡ 1 → evidence ≡ Some (evidence_text e) → length (evidence_text e) ≤ 536870912 → Convicts sources.material.key (evidence_text e) → AuditStatus sources evidence status
+      when_guilty found some one written short convicts = record {
         clean = λ e. absurd (omega (arith, e, one));
         guilty = λ e. (readable o hand_ins given read, guilty_there o hand_ins given read found some (readable o hand_ins given read));
-        evidence = λ e. (evidence_text found, written, convicts);
+        evidence = λ e. (evidence_text found, written, short, convicts);
         refused = λ e. absurd (omega (arith, e, one));
         where_clean = λ x c. absurd (guilty_there o hand_ins given read found some x c);
         where_guilty = λ x not. inl one;
         where_honest = λ x h. absurd (guilty_there o hand_ins given read found some x (honest_there o hand_ins given read x h));
         where_own = λ x h. absurd (guilty_there o hand_ins given read found some x (own_there o hand_ins given read x h));
+        where_handed_out = λ xs there h. let clean = handed_out xs there h in absurd (guilty_there o hand_ins given read found some clean.0 clean.1);
       }
 
 -- ---- the ending
@@ -141,7 +157,7 @@ settled sources out old new ending status told (inr same) ends = by_key (key_rea
     by_guilt o handed given read None is ends = when_clean sources (new.file out) status o handed given read is (same ∙ ap (λ z. z.status) ends.0)
     by_guilt o handed given read (Some e) is ends =
         elim ends.written [
-          | inl w ↦ when_guilty sources (new.file out) status o handed given read e is (same ∙ ap (λ (z : Outcome). z.status) w.0) (w.1 told) ends.convicts
+          | inl w ↦ when_guilty sources (new.file out) status o handed given read e is (same ∙ ap (λ (z : Outcome). z.status) w.0) (w.1 told) ends.is_short ends.convicts
           | inr w ↦ when_high sources (new.file out) status (inl (same ∙ ap (λ (z : Outcome). z.status) w.0))
         ]
 

@@ -1,13 +1,14 @@
 -- How `audit` ends, from the verdict on what was read.
-use Rattle.std.proofs.Common.{◌≡◌, ◌⊎◌, inl, inr, ℕ, true, false, List, Some, Result, Ok, Err, refl, sym, ap, subst, ◌∙◌}
+use Rattle.std.proofs.Common.{◌≡◌, ◌⊎◌, inl, inr, ℕ, ◌≤◌, true, false, List, length, Some, Result, Ok, Err, refl, sym, ap, subst, ◌∙◌, arith}
 use Rattle.cp_bytes.specs.Fields.{◌>>=◌}
 use Rattle.lms_tree.specs.PublicKey.{key_reads}
+use Rattle.cp_evidence.specs.AuditLaws.{evidence_limit}
 use Rattle.cp_evidence.specs.Audited.{audited}
 use Rattle.cp_evidence.specs.Conditions.{Convicts}
 use Rattle.cp_evidence.specs.Evidence.{Evidence, evidence_of}
 use Rattle.cp_evidence.specs.Material.{Material}
 use Rattle.cp_evidence.specs.Verdict as spec
-use Rattle.cp_audit.specs.Verdicts.{GuiltyConvicts, IsAnswer}
+use Rattle.cp_audit.specs.Verdicts.{GuiltyConvicts, GuiltyWithin, IsAnswer}
 use Rattle.cp_audit.specs.declared.refusal.AuditRefusal.{AuditRefusal}
 use Rattle.cp_audit.specs.declared.refusal.AuditRefusal.TheVariants as refusal
 use Rattle.cp_audit.specs.declared.verdict.Verdict.{Verdict}
@@ -22,6 +23,7 @@ use Rattle.cp_endings.specs.Endings.{Outcome, no_memory}
 use Rattle.cp_tool.specs.Folders.{Files, KeepsAll, Stops}
 use Rattle.cp_endings.specs.View.{ending_view}
 use Rattle.cp_tool.proofs.InputLemmas.{rose_before}
+use Rattle.cp_tool.proofs.SizeLemmas.{sources_within}
 use Rattle.cp_endings.specs.declared.audit_ending.AuditEnding.TheVariants as audit_ending
 use Rattle.cp_tool.specs.declared.audit_sources.Sources as code
 use Rattle.cp_endings.specs.declared.ending.Ending.{Ending}
@@ -37,13 +39,21 @@ module _ (sources : Sources) where
     here : (r : Result Verdict AuditRefusal) → IsAnswer (audited m handed) r → IsAnswer (audited sources.material sources.hand_ins) r
     here r answer = subst (λ (h : List ℕ). IsAnswer (audited sources.material h) r) same_too (subst (λ (n : Material). IsAnswer (audited n handed) r) same answer)
 
-    pub answers : (v : Verdict) → IsAnswer (audited m handed) (Ok v) → GuiltyConvicts sources.material.key (Ok v) → Answers sources (Ok v)
-    answers (Clean entries count aside) answer convicts =
+    pub answers : (v : Verdict) → IsAnswer (audited m handed) (Ok v) → GuiltyConvicts sources.material.key (Ok v) → GuiltyWithin (evidence_limit m handed) (Ok v) → Answers sources (Ok v)
+    answers (Clean entries count aside) answer convicts short =
         let is = here (Ok (Clean entries count aside)) answer in
         rw (reads, is) refl
-    answers (Guilty bytes) answer convicts =
-        let is = here (Ok (Guilty bytes)) answer in
-        (is.0, rw (reads, is.1) refl, record { spelled = is.2; reads = is.3; convicts = convicts })
+    answers (Guilty bytes) answer convicts short =
+        let is = here (Ok (Guilty bytes)) answer in (
+          is.0,
+          rw (reads, is.1) refl,
+          record {
+            spelled = is.2;
+            reads = is.3;
+            convicts = convicts;
+            is_short = subst (λ (h : List ℕ). length bytes ≤ evidence_limit sources.material h) same_too (subst (λ (n : Material). length bytes ≤ evidence_limit n handed) same short);
+          },
+        )
 
     pub not_given_ends : (what : What) → IsAnswer (audited m handed) (Err (refusal.NotGiven what)) → Answers sources (Err (Audited (audit_ending.NotGiven what)))
     not_given_ends what answer =
@@ -96,6 +106,7 @@ module _ (words : AuditWords) (old mid : Files) (s : code.Sources) (read : Reads
         are_files = read.are_files;
         ends = inl (subst (λ (r : Result (List ℕ × spec.Verdict) Outcome). AnswerEnds r words.out old new ending) (sym (verdict_there _ answer.1)) (record {
           convicts = subst (Convicts s.key.items) spells.spelled spells.convicts;
+          is_short = subst (λ (l : List ℕ). length l ≤ 536870912) spells.spelled (let short = spells.is_short in let limit = sources_within words read.files (sources_view words.epoch s) read.gives in omega (arith, short, limit));
           written = elim wrote.written [
             | inl w ↦ inl (w.0, λ t. w.1 (read.follows.tells ∙ t) ∙ ap (λ (b : List ℕ). Some b) spells.spelled)
             | inr f ↦ inr (f.0, rose_before old.faults mid.faults new.faults read.follows.later f.1)

@@ -7,6 +7,7 @@ pub mod Contents
 pub mod DrawLemmas
 pub mod FaultLemmas
 pub mod InputLemmas
+pub mod SizeLemmas
 pub mod ReplayLemmas
 pub mod ReplayRefusals
 pub mod SourceLemmas

@@ -3,14 +3,13 @@ use Rattle.std.proofs.Common.{◌≡◌, ◌⊎◌, inl, inr, ℕ, ◌≤◌, tr
 use Rattle.std.specs.Prelude.{nat_lt}
 use Rattle.std.specs.Global.{Vec}
 use Rattle.std.proofs.lemmas.Bool.{le-ltb}
-use Rattle.cp_bytes.specs.Fields.{◌>>=◌}
 use Rattle.cp_replay.specs.Replay as replay
 use Rattle.cp_replay.specs.Replay.{replayed}
 use Rattle.cp_replay.specs.Script.{script_of}
 use Rattle.cp_replay.specs.View.{outcome_view}
 use Rattle.cp_replay.specs.declared.line.Line.{Line}
 use Rattle.cp_replay.specs.declared.replayed.Replayed.{Replayed}
-use Rattle.cp_endings.specs.Endings.{Outcome, printed}
+use Rattle.cp_endings.specs.Endings.{printed}
 use Rattle.cp_tool.specs.Folders.{Files, KeepsAll, Stops, input_of}
 use Rattle.cp_tool.specs.Inputs.{ReadsInput}
 use Rattle.cp_tool.specs.ReplayFiles.{StopsAt, WritesAll, writes_of, content_after}

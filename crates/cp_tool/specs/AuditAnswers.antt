@@ -1,6 +1,7 @@
 -- The verdict that the code has, and what is written of it.
-use Rattle.std.specs.Prelude.{ℕ, ◌≡◌, ◌⊎◌, List, Some, Result, Ok, Err, IsTrue}
+use Rattle.std.specs.Prelude.{ℕ, ◌≡◌, ◌≤◌, ◌⊎◌, List, length, Some, Result, Ok, Err, IsTrue}
 use Rattle.cp_outside.specs.Causes.{Rose}
+use Rattle.cp_evidence.specs.AuditLaws.{evidence_limit}
 use Rattle.cp_evidence.specs.Conditions.{Convicts}
 use Rattle.cp_evidence.specs.Evidence.{Evidence, evidence_of, evidence_text}
 use Rattle.cp_evidence.specs.Verdict as spec
@@ -13,16 +14,17 @@ use Rattle.cp_tool.specs.Folders.{Files, KeepsOthers}
 use Rattle.cp_endings.specs.View.{ending_view}
 use Rattle.cp_endings.specs.declared.ending.Ending.{Ending}
 
--- the bytes spell the evidence, and convict
-pub record Spells (key : List ℕ) (e : Evidence) (bytes : List ℕ) : Type 0 where
+-- the bytes spell the evidence, convict and are few
+pub record Spells (sources : Sources) (e : Evidence) (bytes : List ℕ) : Type 0 where
   pub spelled : bytes ≡ evidence_text e
   pub reads : evidence_of bytes ≡ Ok e
-  pub convicts : Convicts key bytes
+  pub convicts : Convicts sources.material.key bytes
+  pub is_short : length bytes ≤ evidence_limit sources.material sources.hand_ins
 
 -- the verdict, with the evidence as its bytes, or how the command ends without one
 abbrev pub Answers : Sources → Result Verdict Ending → Type 0
 Answers sources (Ok (Clean entries handed aside)) = verdict_of sources ≡ Ok (sources.material.key, spec.Verdict.Clean entries handed aside)
-Answers sources (Ok (Guilty bytes)) = (e : Evidence) × (verdict_of sources ≡ Ok (sources.material.key, spec.Verdict.Guilty e)) × Spells sources.material.key e bytes
+Answers sources (Ok (Guilty bytes)) = (e : Evidence) × (verdict_of sources ≡ Ok (sources.material.key, spec.Verdict.Guilty e)) × Spells sources e bytes
 Answers sources (Err ending) = (verdict_of sources ≡ Err (ending_view ending)) ⊎ (ending_view ending ≡ no_memory)
 
 -- the evidence was written and is named, or its write failed; the other files stay

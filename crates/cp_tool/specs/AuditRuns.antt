@@ -1,5 +1,5 @@
 -- How `audit` ends, over the files of its folder (this project's own).
-use Rattle.std.specs.Prelude.{ℕ, ◌-◌, ◌≡◌, ◌⊎◌, List, [], Option, Some, None, Result, Ok, Err, nat_le, if◌then◌else◌, IsTrue}
+use Rattle.std.specs.Prelude.{ℕ, ◌-◌, ◌≡◌, ◌≤◌, ◌⊎◌, List, [], length, Option, Some, None, Result, Ok, Err, nat_le, if◌then◌else◌, IsTrue}
 use Rattle.cp_bytes.specs.Fields.{◌>>=◌}
 use Rattle.cp_outside.specs.Causes.{Rose}
 use Rattle.lms_tree.specs.PublicKey.{key_reads}
@@ -99,10 +99,11 @@ answered key (Err (Malformed at)) = Err (malformed at)
 abbrev pub verdict_of : Sources → Result (List ℕ × Verdict) Outcome
 verdict_of sources = if key_reads sources.material.key then answered sources.material.key (audited sources.material sources.hand_ins) else Err bad_key
 
--- The evidence convicts; it was written and is named, or its write failed, after which the file of its
+-- The evidence convicts, and is within the limit of what `judge` reads; it was written and is named, or its write failed, after which the file of its
 -- name may hold anything.
 pub record GuiltyEnds (key : List ℕ) (e : Evidence) (out : List ℕ) (old new : Files) (ending : Outcome) : Type 0 where
   pub convicts : Convicts key (evidence_text e)
+  pub is_short : length (evidence_text e) ≤ 536870912
   pub written : ((ending ≡ guilty (guilt_of e)) × (IsTrue old.tells → new.file out ≡ Some (evidence_text e))) ⊎ ((ending ≡ fault) × Rose old.faults new.faults)
 
 -- Nothing is written but evidence.

@@ -104,7 +104,8 @@ pub fn run<R: Threads + Sync, F: Folder, K: Disk, S: Sink>(
 
     // `audit` over files that are told and within their limits: 0 comes exactly where the material is
     // given, the hand-ins read and the epoch is clean, as it is of an honest store, and 1 exactly where
-    // they are given and read and it isn't; then the evidence that was written convicts.
+    // they are given and read and it isn't; then the evidence that was written convicts, and `judge`
+    // takes it, by its length.
     ensures audit { (wanted : AuditWords) (sources : Sources) → command_of (map string_bytes words.now) ≡ Some (Audit wanted) → IsTrue (F.tells files.old)
         → sources_of wanted (files_in (F.file files.old) wanted) ≡ Ok sources
         → AuditStatus sources (F.file files.new wanted.out) result }

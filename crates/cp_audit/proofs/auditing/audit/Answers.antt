@@ -15,7 +15,7 @@ use Rattle.cp_audit.specs.Verdicts.{IsAnswer}
 use Rattle.cp_audit.specs.View.{material_view}
 use Rattle.cp_audit.proofs.LostLemmas.{are_log_parts, few_parts}
 use Rattle.cp_audit.proofs.RowLemmas.{WritesOut}
-use Rattle.cp_audit.proofs.VerdictLemmas.{not_given, not_read, found_is, is_guilty, convicts_by, reads_by, is_clean, no_more}
+use Rattle.cp_audit.proofs.VerdictLemmas.{not_given, not_read, found_is, is_guilty, convicts_by, reads_by, short_by, is_clean, no_more}
 use Rattle.cp_audit.proofs.auditing.audit.Goals as goal
 
 pub returns-in-Err-clause-verdict : goal.returns-in-Err-clause-verdict
@@ -54,6 +54,16 @@ returns-in-Ok-Some-clause-convicts c =
     let found = found_is o read.0 (map envelope_view c.as_slice.result.now) (Some row.0) (ap (map envelope_view) c.as_slice.ensures.value ∙ read.2.verified) row.1 in
     let bytes : IsBytes c.args.handins.now = λ i. omega (arith, c.type_inv.handins i) in
     convicts_by m o c.args.handins.now c.from_vec.result read.0 row.0 c.is_material.ensures bytes c.in-Ok.ensures.0 read.1 found (c.from_vec.ensures ∙ row.2) row.3
+
+pub returns-in-Ok-Some-clause-is_short : goal.returns-in-Ok-Some-clause-is_short
+returns-in-Ok-Some-clause-is_short c =
+    let m = material_view c.args.material.now in
+    let o = given_view c.in-Ok.o in
+    let read = c.in-Ok-collect.ensures in
+    let row : WritesOut (first_of (guilt_by_kind o (map envelope_view c.as_slice.result.now))) c.in-Ok-Some.evidence = rw c.in-Ok-Some.field-0-is at c.in-Ok-Some.ensures in
+    let found = found_is o read.0 (map envelope_view c.as_slice.result.now) (Some row.0) (ap (map envelope_view) c.as_slice.ensures.value ∙ read.2.verified) row.1 in
+    let bytes : IsBytes c.args.handins.now = λ i. omega (arith, c.type_inv.handins i) in
+    short_by m o c.args.handins.now c.from_vec.result read.0 row.0 c.is_material.ensures bytes c.in-Ok.ensures.0 read.1 found (c.from_vec.ensures ∙ row.2)
 
 pub clean-requires-clause-few : goal.clean-requires-clause-few
 clean-requires-clause-few c =

@@ -1,4 +1,4 @@
-use Rattle.std.proofs.Common.{◌≡◌, refl, sym, inl, inr, ◌∙◌, arith}
+use Rattle.std.proofs.Common.{refl, sym, inl, inr, ◌∙◌, arith}
 use Rattle.cp_tool.proofs.accepting.put_accepted.Goals as goal
 
 pub returns-in-Err-write-clause-ends : goal.returns-in-Err-write-clause-ends
