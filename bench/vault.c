@@ -1,5 +1,5 @@
 /* The writes and syncs of a key vault: two slots and a gate byte, and for each reservation the other
- * slot, a sync, the gate byte and a sync. Its words are those of vault_bench. */
+ * slot, a sync, the gate byte and a sync. Its words are those of layer_bench behind 'vault'. */
 #include <fcntl.h>
 #include <stdint.h>
 #include <stdio.h>

@@ -1,18 +1,20 @@
-//! Times chain steps, key making, signing and verifying, for `bench/run`, which sets them beside the
-//! same work in C:
+//! Times chain steps, key making, signing and verifying, and a table of tips, for `bench/run`, which sets
+//! the first of them beside the same work in C:
 //!
 //!     hash_bench step CHAINS BODY
 //!     hash_bench make HEIGHT WIDTH WORKERS BODY
 //!     hash_bench sign WIDTH ROUNDS BODY
+//!     hash_bench table ROWS
 //!
-//! BODY is `lanes` (four chains side by side) or `plain` (one after another). Each prints nanoseconds
-//! and some bytes of the result. Other words, or none, get one fixed line.
+//! BODY is `lanes` (four chains side by side) or `plain` (one after another), and ROWS at most 1,000,000.
+//! Each prints nanoseconds and some bytes of the result. Other words, or none, get two fixed lines.
 #![tactic(auto)]
 
 ghost use Rattle.std.specs.Prelude.{◌<◌};
 
 mod measuring;
 mod steps;
+mod table;
 mod task;
 mod tree;
 
@@ -73,9 +75,13 @@ fn main(rt: HostRuntime) -> io::Result<()> {
                 None => println!(rt; "out of memory"),
             }
         }
-        None => println!(rt;
-            "four chains of 255 steps end in {:016x}",
-            front(&ends_by_lanes(1))
-        ),
+        Some(Task::Table(rows)) => table::measure(&rt, rows),
+        None => {
+            println!(rt;
+                "four chains of 255 steps end in {:016x}",
+                front(&ends_by_lanes(1))
+            )?;
+            table::show(&rt)
+        }
     }
 }

@@ -23,6 +23,8 @@ pub enum Task {
     Make(Height, OtsType, usize, Body),
     /// Each leaf of a tree of height 5 signs in each of so many rounds, and each signature is verified.
     Sign(OtsType, u16, Body),
+    /// A table of so many rows, at most 1,000,000, is hashed, judged and compared.
+    Table(u32),
 }
 
 fn body_of(name: &str) -> Option<Body> {
@@ -52,6 +54,14 @@ fn height_of(height: &str) -> Option<Height> {
     }
 }
 
+// A number of rows.
+fn rows_of(word: &str) -> Option<u32> {
+    match word.parse::<u32>() {
+        Ok(rows) if rows <= 1_000_000 => Some(rows),
+        _ => None,
+    }
+}
+
 /// The task that the words name, if any.
 pub fn task_of(words: &[String]) -> Option<Task> {
     match words {
@@ -70,6 +80,7 @@ pub fn task_of(words: &[String]) -> Option<Task> {
             rounds.as_str().parse().ok()?,
             body_of(body.as_str())?,
         )),
+        [name, rows] if name.as_str() == "table" => Some(Task::Table(rows_of(rows.as_str())?)),
         _ => None,
     }
 }

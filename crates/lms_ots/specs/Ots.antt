@@ -12,7 +12,7 @@ use Rattle.lms_ots.specs.Parameters.{width_of, code_of, chains_of, shift_of, max
 unfoldable pub coef : List ℕ → ℕ → ℕ → ℕ
 coef s i w = bit_and (2 ^ w - 1) (slice_index s (i * w / 8) / 2 ^ (8 - (w * (i % (8 / w)) + w)))
 
--- the sum of (2^w - 1) - coef(S, i, w) over the first n digits (4.4, algorithm 2, step 2)
+-- the sum of (2^w - 1) - coef(S, i, w) over the first n digits (4.4, the loop of algorithm 2)
 unfoldable pub cksm_sum : List ℕ → ℕ → ℕ → ℕ
 cksm_sum s w zero = 0
 cksm_sum s w (suc n) = cksm_sum s w n + (max_digit w - coef s n w)
@@ -40,7 +40,7 @@ d_pblc = 0x8080
 abbrev pub d_mesg : ℕ
 d_mesg = 0x8181
 
--- Q, the hash of a text with the randomizer C (4.5, algorithm 3, step 4)
+-- Q, the hash of a text with the randomizer C (4.5, algorithm 3, step 5)
 unfoldable pub message_hash : List ℕ → ℕ → List ℕ → List ℕ → List ℕ
 message_hash id q randomizer text = sha256 (tagged id q d_mesg ++ randomizer ++ text)
 

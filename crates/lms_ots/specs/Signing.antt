@@ -14,7 +14,7 @@ secret_start id q i secret = step id q i 0xff secret
 abbrev pub randomizer_of : List ℕ → ℕ → List ℕ → List ℕ
 randomizer_of id q secret = secret_start id q 0xfffd secret
 
--- the ends of the first n chains, joined (4.3, algorithm 1, step 3)
+-- the ends of the first n chains, joined (4.3, algorithm 1, step 4)
 unfoldable pub public_ends : List ℕ → ℕ → ℕ → List ℕ → ℕ → List ℕ
 public_ends id q w secret zero = []
 public_ends id q w secret (suc n) = public_ends id q w secret n ++ chain id q n 0 (max_digit w) (secret_start id q n secret)

@@ -11,8 +11,6 @@ mod four;
 mod keys;
 mod running;
 mod secrets;
-#[cfg(test)]
-mod tests;
 
 use crate::chains::tagged;
 use crate::digits::coef;

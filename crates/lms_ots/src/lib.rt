@@ -8,8 +8,6 @@ mod lanes;
 mod ots_type;
 pub mod plain;
 mod signing;
-#[cfg(test)]
-mod tests;
 mod verifying;
 
 pub use chains::tagged;

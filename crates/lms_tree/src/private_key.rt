@@ -126,6 +126,3 @@ impl PrivateKey {
         put_path(self.height, self.nodes.as_slice(), leaf, &mut out[path..]);
     }
 }
-
-#[cfg(test)]
-mod tests;

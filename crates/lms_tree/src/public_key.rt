@@ -126,37 +126,3 @@ impl PublicKey {
         self.lms.code()
     }
 }
-
-#[cfg(test)]
-mod tests {
-    use super::*;
-    use std::test::Fail;
-
-    // The key with these codes.
-    fn with_codes(lms: u8, ots: u8) -> [u8; 56] {
-        let mut bytes = [0u8; 56];
-        bytes[3] = lms;
-        bytes[7] = ots;
-        bytes
-    }
-
-    #[test]
-    fn keys_have_56_bytes_and_known_codes(rt: HostRuntime) -> Result<(), Fail> {
-        let bytes = with_codes(9, 1);
-        let key = PublicKey::read(&bytes).map_err(|_| "refused")?;
-        assert_eq!(rt; key.bytes().as_slice(), bytes.as_slice());
-        let short = PublicKey::read(&[0; 55]).err();
-        assert_eq!(rt; short, Some(KeyFault::Length { found: 55 }));
-        let long = PublicKey::read(&[0; 57]).err();
-        assert_eq!(rt; long, Some(KeyFault::Length { found: 57 }));
-        for (lms, ots) in [(4, 4), (10, 4), (5, 0), (5, 5)] {
-            let fault = KeyFault::Code {
-                lms: u32::from(lms),
-                ots: u32::from(ots),
-            };
-            let answer = PublicKey::read(&with_codes(lms, ots)).err();
-            assert_eq!(rt; answer, Some(fault), "at {lms} and {ots}");
-        }
-        Ok(())
-    }
-}

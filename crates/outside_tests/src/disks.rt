@@ -1,104 +1,80 @@
 //! What no clause of the disks says: that calls succeed, which images `crash` makes, and a real file.
-use cp_outside::{Disk, Failed, FileDisk, MemDisk};
+use cp_outside::{Disk, FileDisk, MemDisk};
+use std::alloc::Global;
 use std::fs;
 use std::test::Fail;
 
-// The first bytes of a disk, at most 8.
-fn bytes_of(disk: &mut MemDisk) -> ([u8; 8], Result<usize, Failed>) {
+// Whether a read of 8 bytes from the start on gives these.
+fn holds<K: Disk>(disk: &mut K, want: &[u8]) -> bool {
+    let mut into = [0; 8];
+    disk.read(0, &mut into) == Ok(want.len()) && into.starts_with(want)
+}
+
+// A disk that holds a text for good, with a write that was not synced.
+fn unsynced(alloc: Global, text: &[u8], at: u64, bytes: &[u8]) -> Option<MemDisk> {
+    let mut disk = MemDisk::new(alloc, 1024, Vec::new(alloc)).ok()?;
+    disk.write_at(0, text).ok()?;
+    disk.sync().ok()?;
+    disk.write_at(at, bytes).ok()?;
+    Some(disk)
+}
+
+// The bytes of a disk, which are at most 8, with zeros behind them, and their number.
+fn bytes_of(disk: &mut MemDisk) -> Option<([u8; 8], usize)> {
     let mut bytes = [0; 8];
-    let count = disk.read(0, &mut bytes);
-    (bytes, count)
+    let count = disk.read(0, &mut bytes).ok()?;
+    Some((bytes, count))
+}
+
+// What a crash leaves of such a disk.
+fn left(alloc: Global, text: &[u8], at: u64, bytes: &[u8], pick: u64) -> Option<([u8; 8], usize)> {
+    let disk = unsynced(alloc, text, at, bytes)?;
+    let mut left = disk.crash(alloc, pick).ok()?;
+    bytes_of(&mut left)
+}
+
+// The byte that a crash leaves in the place of the second of three, where the others stay.
+fn byte_left(alloc: Global, pick: u64) -> Option<u8> {
+    let (bytes, length) = left(alloc, b"abc", 1, b"B", pick)?;
+    (length == 3 && bytes[0] == b'a' && bytes[2] == b'c').then_some(bytes[1])
+}
+
+// How many bytes a crash leaves of two and a write behind them, where those two stay.
+fn length_left(alloc: Global, pick: u64) -> Option<usize> {
+    let (bytes, length) = left(alloc, b"ab", 3, b"de", pick)?;
+    (bytes[0] == b'a' && bytes[1] == b'b').then_some(length)
 }
 
 #[test]
-fn a_disk_reads_what_was_written(rt: HostRuntime) -> Result<(), Fail> {
-    let alloc = rt.alloc();
-    let mut disk = MemDisk::new(alloc, 1024, Vec::new(alloc))?;
-    assert_eq!(rt; disk.write_at(2, b"ab"), Ok(()));
-    assert_eq!(rt;
-        bytes_of(&mut disk),
-        ([0, 0, b'a', b'b', 0, 0, 0, 0], Ok(4))
-    );
-    assert_eq!(rt; disk.write_at(3, b"cd"), Ok(()));
-    assert_eq!(rt; disk.write_at(9, b""), Ok(()));
-    assert_eq!(rt;
-        bytes_of(&mut disk),
-        ([0, 0, b'a', b'c', b'd', 0, 0, 0], Ok(5))
-    );
-    let mut rest = [7; 2];
-    assert_eq!(rt; disk.read(4, &mut rest), Ok(1));
-    assert_eq!(rt; disk.read(5, &mut rest), Ok(0));
-    Ok(())
-}
-
-#[test]
-fn a_call_fails_where_it_is_to(rt: HostRuntime) -> Result<(), Fail> {
-    let alloc = rt.alloc();
-    let mut failing = Vec::new(alloc);
-    failing.push(1)?;
-    // The room is for two calls and five bytes that lengthen the file.
-    let mut disk = MemDisk::new(alloc, 64 + 64 + 10, failing)?;
-    assert_eq!(rt; disk.write_at(0, b"abcd"), Ok(()));
-    assert_eq!(rt; disk.sync(), Err(Failed));
-    assert_eq!(rt; disk.write_at(4, b"ef"), Err(Failed));
-    assert_eq!(rt; disk.write_at(4, b"e"), Ok(()));
-    assert_eq!(rt; disk.sync(), Err(Failed));
-    let mut stopped = MemDisk::new(alloc, 1024, Vec::new(alloc))?;
-    stopped.stop_after(1);
-    assert_eq!(rt; stopped.write_at(0, b"a"), Ok(()));
-    assert_eq!(rt; stopped.sync(), Err(Failed));
-    assert_eq!(rt; stopped.write_at(0, b"b"), Err(Failed));
-    Ok(())
-}
-
-#[test]
-fn a_crash_leaves_parts_of_what_was_not_synced(rt: HostRuntime) -> Result<(), Fail> {
-    let alloc = rt.alloc();
+fn a_crash_leaves_any_byte_where_the_write_was_not_synced(rt: HostRuntime) {
     let mut seen = [false; 256];
     for pick in 0..1024 {
-        let mut disk = MemDisk::new(alloc, 1024, Vec::new(alloc))?;
-        assert_eq!(rt; disk.write_at(0, b"abc"), Ok(()));
-        assert_eq!(rt; disk.sync(), Ok(()));
-        assert_eq!(rt; disk.write_at(1, b"B"), Ok(()));
-        let mut left = disk.crash(alloc, pick)?;
-        let (bytes, count) = bytes_of(&mut left);
-        assert_eq!(rt; (bytes[0], bytes[2], count), (b'a', b'c', Ok(3)));
-        seen[bytes[1] as usize] = true;
-        if pick < 2 {
-            assert_eq!(rt; bytes[1], [b'b', b'B'][pick as usize]);
-        }
+        let byte = byte_left(rt.alloc(), pick);
+        assert!(&rt; byte.is_some(), "at {pick}");
+        seen[byte.unwrap_or(0) as usize] = true;
     }
-    // Each byte may stand in the range that was written.
-    assert_eq!(rt; seen, [true; 256]);
-    let mut lengths = [false; 6];
+    assert!(&rt; seen == [true; 256]);
+    assert!(&rt; byte_left(rt.alloc(), 0) == Some(b'b'));
+    assert!(&rt; byte_left(rt.alloc(), 1) == Some(b'B'));
+}
+
+#[test]
+fn a_crash_leaves_any_length_that_was_not_synced(rt: HostRuntime) {
+    let mut seen = [false; 8];
     for pick in 0..64 {
-        let mut disk = MemDisk::new(alloc, 1024, Vec::new(alloc))?;
-        assert_eq!(rt; disk.write_at(0, b"ab"), Ok(()));
-        assert_eq!(rt; disk.sync(), Ok(()));
-        assert_eq!(rt; disk.write_at(3, b"de"), Ok(()));
-        let mut left = disk.crash(alloc, pick)?;
-        let (bytes, count) = bytes_of(&mut left);
-        assert_eq!(rt; (bytes[0], bytes[1]), (b'a', b'b'));
-        lengths[count.unwrap_or(0).min(5)] = true;
+        seen[length_left(rt.alloc(), pick).unwrap_or(0).min(7)] = true;
     }
-    assert_eq!(rt; lengths, [false, false, true, true, true, true]);
-    Ok(())
+    assert!(&rt; seen == [false, false, true, true, true, true, false, false]);
 }
 
 #[test]
 fn a_file_is_a_disk(rt: HostRuntime) -> Result<(), Fail> {
     let name = "file_disk_test";
     let mut disk = FileDisk::new(&rt, name);
-    let mut bytes = [9; 6];
-    assert_eq!(rt; disk.write_at(2, b"ab"), Ok(()));
-    assert_eq!(rt; disk.sync(), Ok(()));
-    assert_eq!(rt; disk.read(0, &mut bytes), Ok(4));
-    assert_eq!(rt; bytes, [0, 0, b'a', b'b', 9, 9]);
-    let mut again = FileDisk::new(&rt, name);
-    assert_eq!(rt; again.read(3, &mut bytes), Ok(1));
-    assert_eq!(rt; bytes[0], b'b');
-    let mut missing = FileDisk::new(&rt, "no_such_folder/file");
-    assert_eq!(rt; missing.sync(), Err(Failed));
+    assert!(rt; disk.write_at(2, b"ab").is_ok());
+    assert!(rt; disk.sync().is_ok());
+    assert!(rt; holds(&mut FileDisk::new(&rt, name), b"\0\0ab"));
+    assert!(rt; FileDisk::new(&rt, "no_such_folder/file").sync().is_err());
     fs::remove_file(&rt, name)?;
     Ok(())
 }

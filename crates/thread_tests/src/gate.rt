@@ -3,6 +3,7 @@ ghost use Rattle.cp_gate.specs.Histories.{SeatAdds};
 ghost use Rattle.cp_gate.specs.Models.{IsSeatOf, places};
 
 use cp_gate::{Gate, OutOfMemory, Seat, StandsFor};
+use std::alloc::Global;
 use std::sync::Wait;
 use std::sync::atomic::{AtomicBool, Ordering};
 use std::test::Fail;
@@ -178,56 +179,49 @@ fn race<R: Threads + Wait + Clock + Sync>(
     )
 }
 
-// One seat enters place 0. While it is inside, the other enters place 1 and leaves it again, and the one sees that before it leaves. With one lock for all places the one would wait in vain, and the test would fail.
-#[test]
-fn places_go_side_by_side(rt: HostRuntime) -> Result<(), Fail> {
-    let mut values = Vec::new(rt.alloc());
+// A race of two seats at a gate of two places: whether the one saw the other coming or gone, what the
+// other saw, and how many visits its place has had then.
+fn race_at<R: Threads + Wait + Clock + Sync>(
+    rt: &R,
+    alloc: Global,
+    same: bool,
+) -> Result<(bool, (bool, Option<u32>), u64), OutOfMemory> {
+    let mut values = Vec::new(alloc);
     values.push(Visits {
-        numbers: Vec::new(rt.alloc()),
+        numbers: Vec::new(alloc),
     })?;
     values.push(Visits {
-        numbers: Vec::new(rt.alloc()),
+        numbers: Vec::new(alloc),
     })?;
-    let room = Vec::with_capacity(rt.alloc(), 2)?;
-    let Ok((gate, mut seats)) = Gate::new(rt.alloc(), (), values, 2) else {
-        return Err(OutOfMemory.into());
+    let room = Vec::with_capacity(alloc, 2)?;
+    let Ok((gate, mut seats)) = Gate::new(alloc, (), values, 2) else {
+        return Err(OutOfMemory);
     };
     let other = seats.pop().unwrap();
     let one = seats.pop().unwrap();
-    assert_eq!(rt; (one.number(), other.number()), (0, 1));
-    let ((mut one, stayed), (mut other, followed)) = race(&rt, &gate, one, other, 1);
-    assert!(rt; stayed);
-    assert_eq!(rt; followed, (true, None));
-    assert_eq!(rt; gate.look(&mut one, 1), 1);
+    let place = if same { 0 } else { 1 };
+    let ((mut one, stayed), (mut other, followed)) = race(rt, &gate, one, other, place);
+    let looked = gate.look(&mut one, place);
     gate.tell(&mut one, &mut other);
     seats.push(one)?;
     seats.push(other)?;
-    let visits = gate.close(seats, room);
-    assert_eq!(rt; visits[0].numbers.as_slice(), [0].as_slice());
-    assert_eq!(rt; visits[1].numbers.as_slice(), [1].as_slice());
-    Ok(())
+    let _visits = gate.close(seats, room);
+    Ok((stayed, followed, looked))
 }
 
-// One seat is inside a place when the other comes to it. The one stays so long that the other normally sleeps by then, and leaves. The other then enters, and finds the visit of the one. If nobody woke the other, the test would not end.
+// While the one is inside its place, the other enters the other place and leaves it again, and the one
+// sees that before it leaves. With one lock for all places the one would wait in vain, and the test
+// would fail. Then the other comes to the place in which the one is. The one stays so long that the
+// other normally sleeps by then, and leaves. The other enters, and finds the visit of the one. If
+// nobody woke the other, the test would not end.
 #[test]
-fn a_seat_waits_for_its_place(rt: HostRuntime) -> Result<(), Fail> {
-    let mut values = Vec::new(rt.alloc());
-    values.push(Visits {
-        numbers: Vec::new(rt.alloc()),
-    })?;
-    let room = Vec::with_capacity(rt.alloc(), 1)?;
-    let Ok((gate, mut seats)) = Gate::new(rt.alloc(), (), values, 2) else {
-        return Err(OutOfMemory.into());
-    };
-    let other = seats.pop().unwrap();
-    let one = seats.pop().unwrap();
-    let ((mut one, stayed), (other, followed)) = race(&rt, &gate, one, other, 0);
-    assert!(rt; stayed);
-    assert_eq!(rt; followed, (true, Some(0)));
-    assert_eq!(rt; gate.look(&mut one, 0), 2);
-    seats.push(one)?;
-    seats.push(other)?;
-    let visits = gate.close(seats, room);
-    assert_eq!(rt; visits[0].numbers.as_slice(), [0, 1].as_slice());
+fn places_go_side_by_side_and_a_seat_waits_for_its_place(rt: HostRuntime) -> Result<(), Fail> {
+    for (same, before, visits) in [(false, None, 1), (true, Some(0), 2)] {
+        let came_to = race_at(&rt, rt.alloc(), same)?;
+        assert!(rt;
+            came_to == (true, (true, before), visits),
+            "at the same place: {same}"
+        );
+    }
     Ok(())
 }
