@@ -1,5 +1,5 @@
 //! A reader, which never waits.
-ghost use Rattle.std.specs.Prelude.{◌≡◌, ◌≤◌, ◌<◌, ◌-◌, ℕ, IfOk, IfErr, MatchOption, IsTrue, length, slice_get, Some, [], ◌∷◌, ◌++◌};
+ghost use Rattle.std.specs.Prelude.{◌≡◌, ◌≤◌, ◌<◌, ◌-◌, ℕ, IfOk, IfErr, MatchOption, IsTrue, length, slice_get, Some, Err, [], ◌∷◌, ◌++◌};
 ghost use Rattle.cp_bulletin.specs.Texts.{texts_of, arc_contents, contents_of, StartsWith};
 ghost use Rattle.cp_bulletin.specs.declared.epoch_refusal.EpochRefusal.TheVariants.{NotClosed};
 
@@ -71,15 +71,29 @@ impl Reader {
         ensures not_closed { IfErr result (λ e. (c : ℕ) → e ≡ NotClosed c → (c ≡ length self.new.texts) × (c < epoch)) }
     {
         let done = self.refresh();
-        let count = self.list.len() as u64;
-        if epoch <= count {
-            return match Arc::try_clone(&self.list[(epoch - 1) as usize]) {
-                Ok(text) => Ok(text),
-                Err(_) => Err(EpochRefusal::OutOfMemory),
-            };
+        if done.is_err() && (self.list.len() as u64) < epoch {
+            return Err(EpochRefusal::OutOfMemory);
         }
-        match done {
-            Ok(()) => Err(EpochRefusal::NotClosed { count }),
+        self.listed(epoch)
+    }
+
+    /// The text of an epoch, counted from 1, among those that the reader has. It looks at no board.
+    ///
+    /// # Errors
+    ///
+    /// `NotClosed` where the reader has `count` texts and `count` is below the epoch's number. `OutOfMemory` where there is no memory for the answer.
+    pub fn listed(&self, epoch: u64) -> Result<Arc<EpochText>, EpochRefusal>
+        requires { 1 ≤ epoch }
+        ensures text { IfOk result (λ t. slice_get self.now.texts (epoch - 1) ≡ Some (arc_contents t)) }
+        ensures not_closed { IfErr result (λ e. (c : ℕ) → e ≡ NotClosed c → (c ≡ length self.now.texts) × (c < epoch)) }
+        ensures closed { length self.now.texts < epoch → result ≡ Err (NotClosed (length self.now.texts)) }
+    {
+        let count = self.list.len() as u64;
+        if epoch > count {
+            return Err(EpochRefusal::NotClosed { count });
+        }
+        match Arc::try_clone(&self.list[(epoch - 1) as usize]) {
+            Ok(text) => Ok(text),
             Err(_) => Err(EpochRefusal::OutOfMemory),
         }
     }

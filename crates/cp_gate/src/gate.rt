@@ -107,6 +107,13 @@ impl<T: StandsFor> Gate<T> {
         }
     }
 
+    /// The gate's key.
+    pub fn key(&self) -> &T::Key
+        ensures { result.now ≡ self.now.key }
+    {
+        &self.key
+    }
+
     // A seat for each number.
     fn deal(&self, all: Vec<Seat<T>>, first: FirstSeat<T>, seats: u32) -> Vec<Seat<T>>
         requires room { (all.items ≡ []) × (seats ≤ vec_capacity all) }

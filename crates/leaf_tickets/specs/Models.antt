@@ -1,5 +1,5 @@
 -- What contracts see of a counter and its seats. All of it is this project's own.
-use Rattle.std.specs.Prelude.{◌≡◌, ℕ, ◌==◌, ◌&&◌, nat_le, nat_lt, List, count_by, if◌then◌else◌, refl}
+use Rattle.std.specs.Prelude.{◌≡◌, ℕ, ◌+◌, ◌≤◌, ◌==◌, ◌&&◌, nat_le, nat_lt, List, [], ◌∷◌, count_by, if◌then◌else◌, refl}
 use Rattle.std.specs.Coded.{Coded, code_by, coded×, coded_ℕ, coded_list}
 use Rattle.atomic_table.specs.Seated.{TableId, table_id_coded}
 
@@ -32,3 +32,12 @@ times x xs = count_by (λ y. y == x) xs
 -- 1 where start ≤ x < end, and else 0: how often x stands among the numbers from start on that are below end
 abbrev pub once_from : ℕ → ℕ → ℕ → ℕ
 once_from start x end = if nat_le start x && nat_lt x end then 1 else 0
+
+-- the numbers ascend strictly, from low on, and are below high
+unfoldable pub AscendsFrom : ℕ → List ℕ → ℕ → Type 0
+AscendsFrom low [] high = low ≤ high
+AscendsFrom low (x ∷ xs) high = (low ≤ x) × AscendsFrom (x + 1) xs high
+
+-- the numbers ascend strictly and are below high
+abbrev pub Ascends : List ℕ → ℕ → Type 0
+Ascends xs high = AscendsFrom 0 xs high
