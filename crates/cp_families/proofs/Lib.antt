@@ -2,3 +2,4 @@ pub mod RowLemmas
 pub mod Chunks
 pub mod Searching
 pub mod Exact
+pub mod Lying

@@ -37,6 +37,14 @@ key_or_fault family client (Some key) = Ok key
 abbrev pub signed_by : PutRequest → List ℕ → List ℕ → Result SignedPut PutFault
 signed_by r signature key = if verifies key (put_request_text r) signature then Ok (record { request = r; signature = signature; key = key }) else Err BadSignature
 
+-- The put that the envelope holds, for a store and one writer's key, or the first fault: the text is no
+-- put request, it names another store, or the key doesn't verify the signature.
+unfoldable pub verify_put_of : List ℕ → List ℕ → Envelope → Result SignedPut PutFault
+verify_put_of store key x = do
+  read ← request_in (put_request_of x.text)
+  request ← for_store store read
+  signed_by request x.signature key
+
 -- The put that the envelope holds, for a store and its families list, or the first fault: the text is
 -- no put request, it names another store, the list has no row for the block's family and the client,
 -- or the row's key doesn't verify the signature.

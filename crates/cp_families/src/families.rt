@@ -36,7 +36,7 @@ impl<'a> Model for Families<'a> {
 }
 
 impl<'a> Families<'a> {
-    ghost use Rattle.std.specs.Prelude.{Option, Some, None, IfOk, true};
+    ghost use Rattle.std.specs.Prelude.{Option, Some, None, Ok, IfOk, IsOk, true};
     ghost use Rattle.cp_statements.specs.Reading.{Reads};
     ghost use Rattle.cp_statements.specs.View.{put_request_view, entry_view, envelope_view};
     ghost use Rattle.cp_families.specs.Families.{families_of, key_of};
@@ -57,6 +57,16 @@ impl<'a> Families<'a> {
         let rows = take_rows(&mut cut, count)?;
         cut.end()?;
         Ok(Families { rows })
+    }
+
+    // The list that a text which reads spells: its rows are taken where they lie.
+    pub(crate) fn in_text(text: &'a [u8]) -> Families<'a>
+        requires { IsOk (families_of text.now) }
+        ensures { families_of text.now ≡ Ok result }
+    {
+        let (_, behind) = text.split_at(8);
+        let (rows, _) = behind.as_chunks::<64>();
+        Families { rows }
     }
 
     /// The same list once more, which borrows the same bytes.

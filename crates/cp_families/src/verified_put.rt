@@ -5,7 +5,7 @@ use cp_statements::PutRequest;
 use lms_tree::PublicKey;
 use std::marker::Model;
 
-/// A put request with the signature of an authorized writer. Only `Families::check_put` makes one, so
+/// A put request with a signature that a writer's key verifies. Only `Families::check_put` and `verify_put` make one, so
 /// whoever holds one holds the fact that the writer's key, which it tells, verifies the signature on
 /// the request's text. Contracts see the request, the signature and the key.
 #[derive(Drop)]

@@ -5,6 +5,7 @@ use Rattle.cp_bytes.specs.Fields.{part}
 use Rattle.cp_statements.specs.PutRequest.{PutRequest, PutRequestFits, put_request_tag, put_request_fields, put_request_values, put_request_text}
 use Rattle.cp_statements.specs.GetRequest.{GetRequest, GetRequestFits, get_request_tag, get_request_fields, get_request_values, get_request_text}
 use Rattle.cp_statements.specs.CloseOrder.{CloseOrder, CloseOrderFits, close_order_tag, close_order_fields, close_order_values, close_order_text}
+use Rattle.cp_statements.specs.CloseOrder2.{CloseOrder2, CloseOrder2Fits, close_order2_tag, close_order2_fields, close_order2_values, close_order2_text}
 use Rattle.cp_statements.specs.Attestation.{Attestation, AttestationFits, attestation_tag, attestation_fields, attestation_values, attestation_text}
 use Rattle.cp_statements.specs.Closing.{Closing, ClosingFits, closing_tag, closing_fields, closing_values, closing_text}
 use Rattle.cp_statements.specs.Entry.{Entry, EntryFits, entry_tag, entry_fields, entry_values, entry_text, signature_text}
@@ -22,6 +23,10 @@ length-get_request_text x h = length-tagged get_request_tag get_request_fields (
 pub length-close_order_text : (x : CloseOrder) → CloseOrderFits x → length (close_order_text x) ≡ 44
 unfolding close_order_text
 length-close_order_text x h = length-tagged close_order_tag close_order_fields (close_order_values x) h
+
+pub length-close_order2_text : (x : CloseOrder2) → CloseOrder2Fits x → length (close_order2_text x) ≡ 76
+unfolding close_order2_text
+length-close_order2_text x h = length-tagged close_order2_tag close_order2_fields (close_order2_values x) h
 
 pub length-attestation_text : (x : Attestation) → AttestationFits x → length (attestation_text x) ≡ 177
 unfolding attestation_text

@@ -4,6 +4,7 @@ use Rattle.cp_bytes.specs.Fields.{IsBytes}
 use Rattle.cp_statements.specs.PutRequest as put_request
 use Rattle.cp_statements.specs.GetRequest as get_request
 use Rattle.cp_statements.specs.CloseOrder as close_order
+use Rattle.cp_statements.specs.CloseOrder2 as close_order2
 use Rattle.cp_statements.specs.Attestation as attestation
 use Rattle.cp_statements.specs.Closing as closing
 use Rattle.cp_statements.specs.Entry as entry
@@ -22,6 +23,7 @@ pub data Form : Type 0 where
   PutRequest : Form
   GetRequest : Form
   CloseOrder : Form
+  CloseOrder2 : Form
   Entry : Form
   Attestation : Form
   Closing : Form
@@ -31,6 +33,7 @@ abbrev pub IsText : Form → List ℕ → Type 0
 IsText PutRequest bytes = IsOk (put_request.put_request_of bytes)
 IsText GetRequest bytes = IsOk (get_request.get_request_of bytes)
 IsText CloseOrder bytes = IsOk (close_order.close_order_of bytes)
+IsText CloseOrder2 bytes = IsOk (close_order2.close_order2_of bytes)
 IsText Entry bytes = IsOk (entry.entry_of bytes)
 IsText Attestation bytes = IsOk (attestation.attestation_of bytes)
 IsText Closing bytes = IsOk (closing.closing_of bytes)

@@ -2,6 +2,7 @@ pub mod Tagged
 pub mod PutRequest
 pub mod GetRequest
 pub mod CloseOrder
+pub mod CloseOrder2
 pub mod Attestation
 pub mod Closing
 pub mod Entry

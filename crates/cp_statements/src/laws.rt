@@ -1,6 +1,7 @@
 //! The laws that tie each form's text to its reading, and the forms to one another.
 ghost use Rattle.cp_statements.specs.Attestation.{AttestationFits, attestation_of, attestation_text};
 ghost use Rattle.cp_statements.specs.CloseOrder.{CloseOrderFits, close_order_of, close_order_text};
+ghost use Rattle.cp_statements.specs.CloseOrder2.{CloseOrder2Fits, close_order2_of, close_order2_text};
 ghost use Rattle.cp_statements.specs.Closing.{ClosingFits, closing_of, closing_text};
 ghost use Rattle.cp_statements.specs.Entry.{EntryFits, entry_of, entry_text};
 ghost use Rattle.cp_statements.specs.Envelope.{EnvelopeFits, envelope_of, envelope_text};
@@ -13,6 +14,7 @@ pub fn texts_are_exact()
     ensures put_request { IsExact put_request_of put_request_text PutRequestFits }
     ensures get_request { IsExact get_request_of get_request_text GetRequestFits }
     ensures close_order { IsExact close_order_of close_order_text CloseOrderFits }
+    ensures close_order2 { IsExact close_order2_of close_order2_text CloseOrder2Fits }
     ensures entry { IsExact entry_of entry_text EntryFits }
     ensures attestation { IsExact attestation_of attestation_text AttestationFits }
     ensures closing { IsExact closing_of closing_text ClosingFits }
@@ -34,6 +36,7 @@ pub fn lengths()
     ensures put_request { HasLength put_request_text PutRequestFits 104 }
     ensures get_request { HasLength get_request_text GetRequestFits 64 }
     ensures close_order { HasLength close_order_text CloseOrderFits 44 }
+    ensures close_order2 { HasLength close_order2_text CloseOrder2Fits 76 }
     ensures entry { EntryLengths }
     ensures attestation { HasLength attestation_text AttestationFits 177 }
     ensures closing { HasLength closing_text ClosingFits 156 }

@@ -4,6 +4,7 @@
 
 pub mod attestation;
 pub mod close_order;
+pub mod close_order2;
 pub mod closing;
 pub mod entry;
 pub mod envelope;
@@ -17,6 +18,7 @@ pub mod put_request;
 
 pub use attestation::Attestation;
 pub use close_order::CloseOrder;
+pub use close_order2::CloseOrder2;
 pub use closing::Closing;
 pub use cp_bytes::OutOfMemory;
 pub use entry::Entry;

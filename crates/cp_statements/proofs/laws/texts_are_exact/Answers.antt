@@ -1,7 +1,7 @@
 use Rattle.std.proofs.Common.{◌≡◌, ℕ, List, Result, Ok, sym, ◌∙◌}
 use Rattle.cp_bytes.specs.Fields.{IsBytes}
 use Rattle.cp_statements.specs.Laws.{IsExact}
-use Rattle.cp_statements.proofs.FixedTexts.{put_request_again, put_request_takes, get_request_again, get_request_takes, close_order_again, close_order_takes, attestation_again, attestation_takes, closing_again, closing_takes}
+use Rattle.cp_statements.proofs.FixedTexts.{put_request_again, put_request_takes, get_request_again, get_request_takes, close_order_again, close_order_takes, close_order2_again, close_order2_takes, attestation_again, attestation_takes, closing_again, closing_takes}
 use Rattle.cp_statements.proofs.Entries.{entry_again, entry_takes, envelope_again, envelope_takes}
 use Rattle.cp_statements.proofs.laws.texts_are_exact.Goals as goal
 
@@ -21,6 +21,7 @@ returns c = record {
   put_request = exact _ _ _ put_request_again put_request_takes;
   get_request = exact _ _ _ get_request_again get_request_takes;
   close_order = exact _ _ _ close_order_again close_order_takes;
+  close_order2 = exact _ _ _ close_order2_again close_order2_takes;
   entry = exact _ _ _ entry_again entry_takes;
   attestation = exact _ _ _ attestation_again attestation_takes;
   closing = exact _ _ _ closing_again closing_takes;
