@@ -17,7 +17,8 @@ use lms_tree::PrivateKey;
 use std::alloc::Global;
 
 /// The put body of the request and its content, signed by the least leaf that is left in the range,
-/// which is then taken. The request has the content's hash, and the range is of this key's leaves.
+/// which is then taken. The request has the content's hash, and the range is of this key's leaves: it
+/// has the id that the key's vault has, the hash of the public key.
 /// `NoLeaf` comes exactly where the range is empty. A client that asks again sends the same bytes
 /// again, and signs nothing anew.
 pub fn ask_put(
@@ -28,6 +29,7 @@ pub fn ask_put(
     content: &[u8],
 ) -> Result<Vec<u8>, AskRefusal>
     requires hash { request.now.content ≡ sha256 content.now }
+    requires key { range.old.key ≡ sha256 (public_of key.now) }
     requires own { range.old.to ≤ leaves_of key.now }
     ensures body { IfOk result (λ body. body.items ≡ put_body_text (signed_put key.now range.old.from (put_request_view request.now) content.now)) }
     ensures signed { IfOk result (λ _. IsTrue (verifies (public_of key.now) (put_request_text (put_request_view request.now)) (signature key.now range.old.from (put_request_text (put_request_view request.now))))) }

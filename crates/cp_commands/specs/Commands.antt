@@ -9,8 +9,8 @@ use Rattle.cp_commands.specs.ClientWords.{CallWords, PutWords, GetWords, AcceptW
 use Rattle.cp_commands.specs.AuditWords.{AuditWords}
 use Rattle.cp_commands.specs.Numbers.{number_in, number_given}
 use Rattle.cp_commands.specs.ReplayWords.{ReplayWords}
-use Rattle.cp_store.specs.declared.by.By.{By}
-use Rattle.cp_store.specs.declared.by.By.TheVariants.{Core, Shards}
+use Rattle.cp_commands.specs.declared.by.By.{By}
+use Rattle.cp_commands.specs.declared.by.By.TheVariants.{Core, Shards}
 
 pub data Command : Type 0 where
   Judge : List ℕ → List ℕ → Command  -- the names of the key's and the evidence's file

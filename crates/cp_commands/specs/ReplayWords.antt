@@ -2,7 +2,7 @@
 use Rattle.std.specs.Prelude.{ℕ, List}
 use Rattle.lms_ots.specs.declared.ots_type.OtsType.{OtsType}
 use Rattle.lms_tree.specs.declared.height.Height.{Height}
-use Rattle.cp_store.specs.declared.by.By.{By}
+use Rattle.cp_commands.specs.declared.by.By.{By}
 
 -- the files of the store's seed and of the script, the store's key and the pages of its shards, and what
 -- serves it

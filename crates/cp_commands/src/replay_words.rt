@@ -4,9 +4,9 @@ ghost use Rattle.std.specs.Option.{option_map};
 ghost use Rattle.cp_commands.specs.Commands.{by_named, by_given, pages_given, replay_of};
 ghost use Rattle.cp_commands.specs.View.{command_view};
 
+use crate::by::By;
 use crate::client_words::{height_wanted, width_wanted};
 use crate::command::{Command, is_word};
-use cp_store::By;
 use cp_words::{Pairs, number};
 use lms_ots::OtsType;
 use lms_tree::Height;

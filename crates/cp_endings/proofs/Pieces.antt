@@ -4,24 +4,24 @@ use Rattle.std.specs.Io.KnownBytes.{Appends}
 use Rattle.std.proofs.KnownBytes.{Appends-trans}
 use Rattle.std.proofs.Math.Seq.{take-append-add}
 use Rattle.std.proofs.lemmas.List.{take-append-le, length-append}
-use Rattle.cp_outside.specs.Causes.{AppendsPrefix}
+use Rattle.cp_outside.specs.Causes.{AppendsPart}
 use Rattle.cp_outside.specs.declared.failures.Failed.{Failed}
 use Rattle.cp_endings.specs.Reports.{Puts}
 
--- a whole piece, and then a prefix of the next
-prefix_behind : (a b c : Option (List ℕ)) (x y : List ℕ) → Appends a b x → AppendsPrefix b c y → AppendsPrefix a c (x ++ y)
+-- a whole piece, and then a part of the next
+prefix_behind : (a b c : Option (List ℕ)) (x y : List ℕ) → Appends a b x → AppendsPart b c y → AppendsPart a c (x ++ y)
 prefix_behind a b c x y whole part = (
   length x + part.0,
   omega (arith, part.1, length-append x y),
   subst (λ t. Appends a c t) (sym (take-append-add x y part.0)) (Appends-trans a b c x (take part.0 y) whole part.2),
 )
 
--- a prefix of a piece is one of the pieces together
-prefix_alone : (a b : Option (List ℕ)) (x y : List ℕ) → AppendsPrefix a b x → AppendsPrefix a b (x ++ y)
+-- a part of a piece is one of the pieces together
+prefix_alone : (a b : Option (List ℕ)) (x y : List ℕ) → AppendsPart a b x → AppendsPart a b (x ++ y)
 prefix_alone a b x y part = (
   part.0,
   omega (arith, part.1, length-append x y),
-  subst (λ t. Appends a b t) (sym (take-append-le part.0 x y part.1)) part.2,
+  subst (λ t. Appends a b t) (sym (take-append-le part.0 x y (omega (arith, part.1)))) part.2,
 )
 
 -- the first piece failed

@@ -2,13 +2,13 @@
 -- and its count of faults, before and after.
 use Rattle.std.specs.Prelude.{ℕ, ◌≡◌, ◌⊎◌, List, Option, Result, MatchResult}
 use Rattle.std.specs.Io.KnownBytes.{Appends}
-use Rattle.cp_outside.specs.Causes.{Rose, HasCause, AppendsPrefix}
+use Rattle.cp_outside.specs.Causes.{Rose, HasCause, AppendsPart}
 use Rattle.cp_outside.specs.declared.failures.Failed.{Failed}
 use Rattle.cp_endings.specs.Endings.{Outcome, line_of, unprinted_status}
 
--- the bytes were written, or a prefix of them and the count rose
+-- the bytes were written, or a prefix of them that is not the whole, and the count rose
 pub record Puts (old new : Option (List ℕ)) (before now : ℕ) (result : Result (Unit {0}) Failed) (bytes : List ℕ) : Type 0 where
-  pub written : MatchResult result (λ _. Appends old new bytes) (λ _. AppendsPrefix old new bytes)
+  pub written : MatchResult result (λ _. Appends old new bytes) (λ _. AppendsPart old new bytes)
   pub cause : HasCause before now result
 
 -- the whole line was written, and the status is the ending's
@@ -16,10 +16,10 @@ pub record Prints (old new : Option (List ℕ)) (ending : Outcome) (status : ℕ
   pub line : Appends old new (line_of ending)
   pub answers : status ≡ ending.status
 
--- the sink failed, and a prefix of the line was written
+-- the sink failed, and a prefix of the line was written, which is not the whole
 pub record FailsToPrint (old new : Option (List ℕ)) (before now : ℕ) (ending : Outcome) (status : ℕ) : Type 0 where
   pub cause : Rose before now
-  pub line : AppendsPrefix old new (line_of ending)
+  pub line : AppendsPart old new (line_of ending)
   pub answers : status ≡ unprinted_status ending
 
 -- how an ending is reported

@@ -139,7 +139,8 @@ fn put_ending<S: Sink>(out: &mut S, ending: &Ending) -> Result<(), Failed>
 /// Prints the ending's lines, each with its end, and answers its status, or 4 where they can't all be
 /// written: then a beginning of them is. Want of memory stays want of memory, 5.
 pub fn report<S: Sink>(out: &mut S, ending: &Ending) -> u8
-    ensures { Reports (S.held out.old) (S.held out.new) (S.write_faults out.old) (S.write_faults out.new) (ending_view ending.now) result }
+    ensures reports { Reports (S.held out.old) (S.held out.new) (S.write_faults out.old) (S.write_faults out.new) (ending_view ending.now) result }
+    ensures count { S.write_faults out.old ≤ S.write_faults out.new }
 {
     match put_ending(out, ending) {
         Ok(()) => ending.status(),

@@ -1,5 +1,5 @@
 -- When a call of the outside may answer a fault, and what it has done by then (this project's own).
-use Rattle.std.specs.Prelude.{ℕ, ◌+◌, ◌-◌, ◌^◌, ◌≤◌, min, List, length, take, Option, Result, OnErr}
+use Rattle.std.specs.Prelude.{ℕ, ◌+◌, ◌-◌, ◌^◌, ◌<◌, ◌≤◌, min, List, length, take, Option, Result, OnErr}
 use Rattle.std.specs.Io.KnownBytes.{Appends}
 
 -- One more, up to `u64::MAX`, where a counter stays.
@@ -15,6 +15,6 @@ pub record HasCause {T E : Type 0} (before after : ℕ) (result : Result T E) : 
   pub never_falls : before ≤ after
   pub failed : OnErr result (Rose before after)
 
--- Known bytes grow by a prefix of these.
-abbrev pub AppendsPrefix : Option (List ℕ) → Option (List ℕ) → List ℕ → Type 0
-AppendsPrefix old new bytes = (n : ℕ) × (n ≤ length bytes) × Appends old new (take n bytes)
+-- Known bytes grow by a prefix of these that is not the whole.
+abbrev pub AppendsPart : Option (List ℕ) → Option (List ℕ) → List ℕ → Type 0
+AppendsPart old new bytes = (n : ℕ) × (n < length bytes) × Appends old new (take n bytes)

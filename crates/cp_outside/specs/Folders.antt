@@ -10,10 +10,18 @@ OnFailed (Ok value) P = Unit {0}
 OnFailed (Err Missing) P = Unit {0}
 OnFailed (Err Failed) P = P
 
--- The count of faults never falls, and `Failed` is answered only where it rose.
+-- The fact for every other answer.
+abbrev pub UnlessFailed : {T : Type 0} → Result T FolderFault → Type 0 → Type 0
+UnlessFailed (Ok value) P = P
+UnlessFailed (Err Missing) P = P
+UnlessFailed (Err Failed) P = Unit {0}
+
+-- The count of failed reads never falls, and `Failed` is answered only where it rose; with every other
+-- answer it stays.
 pub record HasFolderCause {T : Type 0} (before after : ℕ) (result : Result T FolderFault) : Type 0 where
   pub never_falls : before ≤ after
   pub failed : OnFailed result (Rose before after)
+  pub stays : UnlessFailed result (after ≡ before)
 
 -- The first `n` bytes of `into` are those of the file from `at` on; none are given only at or behind
 -- the file's end, or where there is no room.

@@ -21,7 +21,8 @@ pub record FolderState : Type 0 where
   pub writes : List Written
   pub room : ℕ
   pub plan : CallPlan
-  pub faults : ℕ
+  pub read_faults : ℕ
+  pub write_faults : ℕ
 
 -- How much of the room a write fills.
 abbrev pub size_of : Written → ℕ
@@ -48,11 +49,11 @@ FolderReads old new name at into (Ok n) =
 FolderReads old new name at into (Err Missing) =
     (file_after None old.writes name ≡ None) × (new ≡ record old { plan = after_call old.plan })
 FolderReads old new name at into (Err Failed) =
-    new ≡ record old { plan = after_call old.plan; faults = one_more old.faults }
+    new ≡ record old { plan = after_call old.plan; read_faults = one_more old.read_faults }
 
 -- What a write makes of a folder. Where it fails, all files are as before.
 abbrev pub FolderWrites : {T E : Type 0} → FolderState → FolderState → List ℕ → List ℕ → Result T E → Type 0
 FolderWrites old new name bytes (Ok value) =
     new ≡ record old { writes = old.writes ++ record { name = name; content = bytes } ∷ []; plan = after_call old.plan }
 FolderWrites old new name bytes (Err fault) =
-    new ≡ record old { plan = after_call old.plan; faults = one_more old.faults }
+    new ≡ record old { plan = after_call old.plan; write_faults = one_more old.write_faults }

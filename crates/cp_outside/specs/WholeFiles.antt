@@ -30,10 +30,20 @@ OnFailed (Err Failed) P = P
 OnFailed (Err (TooLong named)) P = Unit {0}
 OnFailed (Err OutOfMemory) P = Unit {0}
 
--- The count of faults never falls, and `Failed` is answered only where it rose.
+-- The fact for every other answer.
+abbrev pub UnlessFailed : {T : Type 0} → Result T ReadWhole → Type 0 → Type 0
+UnlessFailed (Ok value) P = P
+UnlessFailed (Err Missing) P = P
+UnlessFailed (Err Failed) P = Unit {0}
+UnlessFailed (Err (TooLong named)) P = P
+UnlessFailed (Err OutOfMemory) P = P
+
+-- The count of failed reads never falls, and `Failed` is answered only where it rose; with every other
+-- answer it stays.
 pub record HasWholeCause {T : Type 0} (before after : ℕ) (result : Result T ReadWhole) : Type 0 where
   pub never_falls : before ≤ after
   pub failed : OnFailed result (Rose before after)
+  pub stays : UnlessFailed result (after ≡ before)
 
 -- These are the file's first bytes, where there is a file.
 abbrev pub IsFrontOf : Option (List ℕ) → List ℕ → Type 0

@@ -15,13 +15,18 @@ use std::io::{ErrorKind, Read, Seek, SeekFrom};
 #[derive(Drop)]
 pub struct DirFolder<'a, R: Files> {
     runtime: &'a R,
-    faults: u64,
+    read_faults: u64,
+    write_faults: u64,
 }
 
 impl<'a, R: Files> DirFolder<'a, R> {
     /// The current folder, with no fault so far.
     pub fn new(runtime: &'a R) -> DirFolder<'a, R> {
-        DirFolder { runtime, faults: 0 }
+        DirFolder {
+            runtime,
+            read_faults: 0,
+            write_faults: 0,
+        }
     }
 }
 
@@ -30,7 +35,11 @@ impl<'a, R: Files> Folder for DirFolder<'a, R> {
 
     ghost file = { λ _ _. None };
 
-    ghost faults = { λ s. s.faults };
+    ghost reach = { λ _. 0 };
+
+    ghost read_faults = { λ s. s.read_faults };
+
+    ghost write_faults = { λ s. s.write_faults };
 
     // The file is opened anew each time: a reader asks for large pieces.
     fn read_at(&mut self, name: &str, at: u64, into: &mut [u8]) -> Result<usize, FolderFault> {
@@ -48,7 +57,7 @@ impl<'a, R: Files> Folder for DirFolder<'a, R> {
                 }
             }
         }
-        self.faults = self.faults.saturating_add(1);
+        self.read_faults = self.read_faults.saturating_add(1);
         Err(FolderFault::Failed)
     }
 
@@ -56,7 +65,7 @@ impl<'a, R: Files> Folder for DirFolder<'a, R> {
         if fs::write(self.runtime, name, bytes).is_ok() {
             return Ok(());
         }
-        self.faults = self.faults.saturating_add(1);
+        self.write_faults = self.write_faults.saturating_add(1);
         Err(Failed)
     }
 }

@@ -20,7 +20,8 @@ use std::marker::Model;
 pub struct MemFolder {
     log: FileLog,
     schedule: Schedule,
-    faults: u64,
+    read_faults: u64,
+    write_faults: u64,
 }
 
 impl Model for MemFolder {
@@ -29,7 +30,13 @@ impl Model for MemFolder {
 
     ghost Value = { FolderState };
 
-    ghost view = { λ s. record { writes = s.log.all; room = s.log.room; plan = s.schedule; faults = s.faults } };
+    ghost view = { λ s. record {
+      writes = s.log.all;
+      room = s.log.room;
+      plan = s.schedule;
+      read_faults = s.read_faults;
+      write_faults = s.write_faults;
+    } };
 }
 
 impl MemFolder {
@@ -40,13 +47,15 @@ impl MemFolder {
           writes = [];
           room = room;
           plan = record { failing = failing.items; calls = 0 };
-          faults = 0;
+          read_faults = 0;
+          write_faults = 0;
         }) }
     {
         Ok(MemFolder {
             log: FileLog::new(alloc, room)?,
             schedule: Schedule::new(failing),
-            faults: 0,
+            read_faults: 0,
+            write_faults: 0,
         })
     }
 
@@ -63,16 +72,20 @@ impl Folder for MemFolder {
 
     ghost file = { λ s name. file_after None s.writes name };
 
-    ghost faults = { λ s. s.faults };
+    ghost reach = { λ _. 0 };
+
+    ghost read_faults = { λ s. s.read_faults };
+
+    ghost write_faults = { λ s. s.write_faults };
 
     /// Moves as many bytes as there are and fit. It fails exactly where its number is listed.
     fn read_at(&mut self, name: &str, at: u64, into: &mut [u8]) -> Result<usize, FolderFault>
         ensures fails { (result ≡ Err FolderFault.Failed) ↔ IsDue self.old.plan }
-        ensures cause { HasFolderCause self.old.faults self.new.faults result }
+        ensures cause { HasFolderCause self.old.read_faults self.new.read_faults result }
         ensures reads { FolderReads self.old self.new name.now at into.new result }
     {
         if self.schedule.count() {
-            count_fault(&mut self.faults);
+            count_fault(&mut self.read_faults);
             return Err(FolderFault::Failed);
         }
         match self.log.file(name) {
@@ -88,7 +101,7 @@ impl Folder for MemFolder {
         ensures fails { IsErr result
             ↔ (IsDue self.old.plan
             ⊎ (self.old.room < size_of_all self.old.writes + (64 + length name.now + length bytes.now))) }
-        ensures cause { HasCause self.old.faults self.new.faults result }
+        ensures cause { HasCause self.old.write_faults self.new.write_faults result }
         ensures writes { FolderWrites self.old self.new name.now bytes.now result }
 
         // what these writes make of the files
@@ -97,7 +110,7 @@ impl Folder for MemFolder {
             → file_after None self.new.writes other ≡ file_after None self.old.writes other }
     {
         if self.schedule.count() || self.log.add(name, bytes).is_err() {
-            count_fault(&mut self.faults);
+            count_fault(&mut self.write_faults);
             return Err(Failed);
         }
         Ok(())

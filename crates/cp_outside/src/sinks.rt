@@ -1,7 +1,7 @@
 //! Where bytes go.
 ghost use Rattle.std.specs.Prelude.{◌≡◌, ◌<◌, ◌≤◌, length, IfOk, MatchResult};
 ghost use Rattle.std.specs.Io.KnownBytes.{Appends, WriteAppends};
-ghost use Rattle.cp_outside.specs.Causes.{HasCause, AppendsPrefix};
+ghost use Rattle.cp_outside.specs.Causes.{HasCause, AppendsPart};
 
 use crate::endpoints::Endpoint;
 use crate::failures::Failed;
@@ -22,11 +22,11 @@ pub trait Sink: Endpoint {
 }
 
 /// Writes all of the bytes, in as many pieces as the sink takes them. After `Failed` a prefix of them
-/// was written.
+/// was written, which is not the whole.
 pub fn put_all<S: Sink>(sink: &mut S, bytes: &[u8]) -> Result<(), Failed>
     ensures bytes { MatchResult result
         (λ _. Appends (S.held sink.old) (S.held sink.new) bytes.now)
-        (λ _. AppendsPrefix (S.held sink.old) (S.held sink.new) bytes.now) }
+        (λ _. AppendsPart (S.held sink.old) (S.held sink.new) bytes.now) }
     ensures cause { HasCause (S.write_faults sink.old) (S.write_faults sink.new) result }
 
     // The other direction stays as it is.

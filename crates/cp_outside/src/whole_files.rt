@@ -1,5 +1,5 @@
 //! Reading a whole file.
-ghost use Rattle.std.specs.Prelude.{◌≡◌, ℕ, ◌+◌, ◌<◌, ◌≤◌, List, drop, length, take, true, false, Ok, OnOk, IfOk, IsTrue, vec_len};
+ghost use Rattle.std.specs.Prelude.{◌≡◌, ℕ, ◌+◌, ◌<◌, ◌≤◌, List, drop, length, max, take, true, false, Ok, OnOk, IfOk, IsTrue, vec_len};
 ghost use Rattle.cp_outside.specs.Folders.{HasFolderCause, ReadsAt};
 ghost use Rattle.cp_outside.specs.WholeFiles.{HasWholeCause, IsFrontOf, NamesLimit, ReadsMore, ReadsWhole};
 
@@ -11,7 +11,7 @@ use std::alloc::Global;
 pub enum ReadWhole {
     /// There is no file of this name.
     Missing,
-    /// The folder failed: its count of faults rose in the call.
+    /// The folder failed: its count of failed reads rose in the call.
     Failed,
     /// The file has more bytes than this limit.
     TooLong { limit: u64 },
@@ -27,7 +27,7 @@ const MOST: usize = 0x10_0000;
 
 /// All bytes of a file, of which there may be at most `limit`. Each piece is read to where it stays.
 /// Reading stops at the file's end, or once `limit + 1` bytes were read, which is the answer
-/// `TooLong`. `Missing` comes exactly where no read fails and no file has this name. No file changes.
+/// `TooLong`; no byte behind those is asked for. `Missing` comes exactly where no read fails and no file has this name. No file changes.
 pub fn read_whole<F: Folder>(
     alloc: Global,
     folder: &mut F,
@@ -37,7 +37,9 @@ pub fn read_whole<F: Folder>(
     ensures bytes { IsTrue (F.tells folder.old) → ReadsWhole (F.file folder.old name.now) limit result }
     ensures bound { IfOk result (λ bytes. vec_len bytes ≤ limit) }
     ensures limit { NamesLimit limit result }
-    ensures cause { HasWholeCause (F.faults folder.old) (F.faults folder.new) result }
+    ensures cause { HasWholeCause (F.read_faults folder.old) (F.read_faults folder.new) result }
+    ensures unwritten { F.write_faults folder.new ≡ F.write_faults folder.old }
+    ensures reach { F.reach folder.new ≤ max (F.reach folder.old) (limit + 1) }
     ensures tells { F.tells folder.new ≡ F.tells folder.old }
     ensures kept { (other : List ℕ) → F.file folder.new other ≡ F.file folder.old other }
 {
@@ -68,7 +70,9 @@ fn read_more<F: Folder>(
     ensures bound { OnOk result (vec_len bytes.new ≤ limit + 1) }
     ensures end { result ≡ Ok false → bytes.new.items ≡ bytes.old.items }
     ensures limit { NamesLimit limit result }
-    ensures cause { HasWholeCause (F.faults folder.old) (F.faults folder.new) result }
+    ensures cause { HasWholeCause (F.read_faults folder.old) (F.read_faults folder.new) result }
+    ensures unwritten { F.write_faults folder.new ≡ F.write_faults folder.old }
+    ensures reach { F.reach folder.new ≤ max (F.reach folder.old) (limit + 1) }
     ensures tells { F.tells folder.new ≡ F.tells folder.old }
     ensures kept { (other : List ℕ) → F.file folder.new other ≡ F.file folder.old other }
 {
@@ -103,7 +107,9 @@ fn read_behind<F: Folder>(
     ensures front { take start bytes.new ≡ take start bytes.old }
     ensures within { IfOk result (λ n. start + n ≤ length bytes.new) }
     ensures told { IsTrue (F.tells folder.old) → ReadsAt (F.file folder.old name.now) start (drop start bytes.new) result }
-    ensures cause { HasFolderCause (F.faults folder.old) (F.faults folder.new) result }
+    ensures cause { HasFolderCause (F.read_faults folder.old) (F.read_faults folder.new) result }
+    ensures unwritten { F.write_faults folder.new ≡ F.write_faults folder.old }
+    ensures reach { F.reach folder.new ≤ max (F.reach folder.old) (length bytes.old) }
     ensures tells { F.tells folder.new ≡ F.tells folder.old }
     ensures kept { (other : List ℕ) → F.file folder.new other ≡ F.file folder.old other }
 {

@@ -1,5 +1,5 @@
 -- The bytes fix what stands at the front, and so the session.
-use Rattle.std.proofs.Common.{◌≡◌, ◌≢◌, ℕ, suc, zero, ◌+◌, ◌-◌, ◌<◌, ◌≤◌, ◌==◌, ◌||◌, Bool, true, false, IsTrue, if◌then◌else◌, List, [], ◌∷◌, ◌++◌, length, take, drop, map, refl, ap, sym, ◌∙◌, subst, arith, inl, inr, Option, Some, None, IsSome, Result, Ok, Err}
+use Rattle.std.proofs.Common.{◌≡◌, ◌≢◌, ℕ, suc, zero, ◌+◌, ◌==◌, ◌||◌, Bool, true, false, if◌then◌else◌, List, ◌∷◌, ◌++◌, take, drop, map, refl, ap, sym, ◌∙◌, subst, arith, inl, inr, Option, IsSome, Result, Ok, Err}
 use Rattle.std.specs.List.{slice_range}
 use Rattle.std.proofs.lemmas.Bool.{cases_order}
 use Rattle.cp_http.proofs.HeadLemmas.{one_content}
@@ -13,9 +13,9 @@ use Rattle.cp_session.specs.declared.fronts.Front.{Front}
 use Rattle.cp_session.specs.declared.fronts.Front.TheVariants.{Waiting, Rejected, Asked}
 use Rattle.cp_session.specs.Routes.{IsRoute, takes_body, method_of, allow_of}
 use Rattle.cp_http.specs.declared.allows.Allow.{Allow}
-use Rattle.cp_session.specs.Fronts.{body_length, GivesLength, AsksFor, HasOtherMethod, LacksLength, HasLongBody, IsRejectedHead, IsChecked, HasRejectedHead, IsRejected, HasHeadOf, IsUnfinished, IsRequest, FrontIs}
-use Rattle.cp_session.specs.Responses.{reply_response, rejection_response}
-use Rattle.cp_session.specs.Sessions.{Exchange, Session, Goes, Turn, Ending, waits, last, rejected}
+use Rattle.cp_session.specs.Fronts.{body_length, GivesLength, AsksFor, HasOtherMethod, LacksLength, HasLongBody, IsRejectedHead, IsChecked, HasRejectedHead, IsRejected, HasHeadOf, IsRequest, FrontIs}
+use Rattle.cp_session.specs.Responses.{reply_response}
+use Rattle.cp_session.specs.Sessions.{Exchange, Session, Goes, Turn, Ending}
 use Rattle.cp_session.specs.Laws.{question_of, answer_of, IsSameSession}
 use Rattle.cp_session.proofs.RouteLemmas.{one_route}
 

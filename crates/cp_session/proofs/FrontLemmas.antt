@@ -1,16 +1,16 @@
 -- What stands at the front stands there still, whatever comes behind it.
-use Rattle.std.proofs.Common.{◌≡◌, ℕ, ◌+◌, ◌-◌, ◌<◌, ◌≤◌, Bool, true, false, if◌then◌else◌, List, [], ◌++◌, length, take, drop, get_or, refl, ap, sym, ◌∙◌, subst, arith, length-append, inl, inr}
+use Rattle.std.proofs.Common.{◌≡◌, ℕ, ◌+◌, ◌-◌, ◌<◌, ◌≤◌, Bool, true, false, if◌then◌else◌, List, [], ◌++◌, length, take, drop, get_or, ap, sym, ◌∙◌, subst, arith, length-append, inl, inr}
 use Rattle.std.specs.List.{slice_index, slice_range}
 use Rattle.std.proofs.lemmas.List.{get_or-take, take-append-le, drop-append-le, take-take, length-take, length-take-le, length-drop, same_lists, places}
 use Rattle.std.proofs.Math.Seq.{drop-append_seam}
-use Rattle.cp_http.specs.Heads.{HeadContent, IsBreak, HasNoBreak, NoBreakBelow, EndsAfter, head_limit, window, HoldsHead, HoldsNoHead, HasHead, HasBadHead, IsPartial, IsTooLong}
+use Rattle.cp_http.specs.Heads.{HeadContent, IsBreak, HasNoBreak, NoBreakBelow, EndsAfter, head_limit, window, HoldsHead, HoldsNoHead, HasHead, HasBadHead}
 use Rattle.cp_http.proofs.HeadLemmas.{limit_is}
 use Rattle.cp_session.specs.declared.rejections.Rejection.{Rejection}
 use Rattle.cp_session.specs.declared.rejections.Rejection.TheVariants.{BadHead, HeadTooLong, NoRoute, MethodNotAllowed, NoLength, BodyTooLong}
 use Rattle.cp_session.specs.declared.requests.Request.{Request}
 use Rattle.cp_session.specs.declared.fronts.Front.TheVariants.{Waiting}
 use Rattle.cp_session.specs.Routes.{takes_body}
-use Rattle.cp_session.specs.Fronts.{HasHeadOf, IsRequest, IsUnfinished, FrontIs, IsRejected, IsRejectedHead, body_length}
+use Rattle.cp_session.specs.Fronts.{HasHeadOf, IsRequest, FrontIs, IsRejected, IsRejectedHead}
 
 pub break_same : (a b : List ℕ) (n k : ℕ) → k + 4 ≤ n → n ≤ length b → take n a ≡ take n b → IsBreak a k → IsBreak b k
 break_same a b n k fits within same h =

@@ -5,3 +5,6 @@ pub mod InboxLemmas
 pub mod SessionLemmas
 pub mod TalkLemmas
 pub mod FixedLemmas
+pub mod ResponseLemmas
+pub mod ReplyLemmas
+pub mod GetsLemmas

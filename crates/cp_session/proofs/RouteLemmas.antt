@@ -1,8 +1,8 @@
 -- Paths, the epochs in them, and the one route that a path names.
-use Rattle.std.proofs.Common.{◌≡◌, ◌≢◌, ℕ, ◌+◌, ◌%◌, ◌/◌, ◌<◌, ◌≤◌, ◌^◌, List, [], ◌∷◌, ◌++◌, codes, decimal, Option, Some, None, Result, Ok, Err, refl, ap, sym, ◌∙◌, arith, get_or, ◌==◌, if◌then◌else◌}
+use Rattle.std.proofs.Common.{◌≡◌, ◌≢◌, ℕ, ◌+◌, ◌%◌, ◌<◌, ◌^◌, List, [], ◌∷◌, ◌++◌, codes, decimal, Result, Ok, Err, refl, ap, sym, ◌∙◌, arith, get_or, ◌==◌, if◌then◌else◌}
 use Rattle.std.specs.Str.Parse.{ParsesUnsigned}
 use Rattle.std.proofs.lemmas.Fmt.{parse-decimal, decimal_injective, decimal_by_steps}
-use Rattle.std.proofs.lemmas.List.{append_cancel_left, append_cancel_right, append-nil}
+use Rattle.std.proofs.lemmas.List.{append_cancel_left, append_cancel_right}
 use Rattle.cp_session.specs.declared.routes.Route.{Route}
 use Rattle.cp_session.specs.declared.routes.Route.TheVariants.{Key, Put, Get, Close, Part, HandIn, Verdict}
 use Rattle.cp_session.specs.declared.part_names.PartName.{PartName}

@@ -1,11 +1,12 @@
 -- A session goes on by one exchange, or ends.
-use Rattle.std.proofs.Common.{◌≡◌, ℕ, suc, zero, ◌+◌, ◌-◌, ◌<◌, ◌≤◌, ◌==◌, ◌||◌, Bool, true, false, List, [], ◌∷◌, ◌++◌, length, take, drop, refl, ap, sym, ◌∙◌, subst, append_assoc, Result}
+use Rattle.std.proofs.Common.{◌≡◌, ℕ, suc, ◌==◌, ◌||◌, Bool, true, false, List, [], ◌∷◌, ◌++◌, take, drop, refl, ap, sym, ◌∙◌, subst, append_assoc, Result}
 use Rattle.std.proofs.lemmas.List.{append-nil}
 use Rattle.std.specs.List.{slice_range}
 use Rattle.cp_session.specs.declared.refusals.Refusal.{Refusal}
 use Rattle.cp_session.specs.declared.rejections.Rejection.{Rejection}
 use Rattle.cp_session.specs.declared.requests.Request.{Request}
 use Rattle.cp_session.specs.declared.fronts.Front.TheVariants.{Waiting, Rejected, Asked}
+use Rattle.cp_session.specs.Replies.{IsSized}
 use Rattle.cp_session.specs.Responses.{reply_response, rejection_response}
 use Rattle.cp_session.specs.Fronts.{FrontIs, IsRequest, IsRejected}
 use Rattle.cp_session.specs.Sessions.{Exchange, Session, Turn, Ending, waits, last, rejected}
@@ -24,15 +25,16 @@ pub starts : (n : ℕ) → Continues n n [] [] []
 starts n more ys rest end s = s
 
 pub goes_on : (total left : ℕ) (used b : List ℕ) (xs : List Exchange) (out : List ℕ) (request : Request) (reply : Result (List ℕ) Refusal)
-    → Continues total (suc left) used xs out → IsRequest b request → (request.close || left == 0) ≡ false
+    → IsSized reply → Continues total (suc left) used xs out → IsRequest b request → (request.close || left == 0) ≡ false
     → Continues total left (used ++ take request.stop b) (xs ++ exchange b request reply ∷ []) (out ++ reply_response reply false)
 unfolding Session
-goes_on total left used b xs out request reply so_far is stays more ys rest end session =
+goes_on total left used b xs out request reply sized so_far is stays more ys rest end session =
     let x : Exchange = exchange b request reply in
     let there : StillThere b more request = still_there b more request is in
     let all : List ℕ = take request.stop b ++ more in
     let turn : Turn (Session left) (request.close || left == 0) request.route (slice_range (take request.stop b ++ more) request.start request.stop) (drop request.stop (take request.stop b ++ more)) (x ∷ ys) (reply_response reply false ++ rest) end = record {
       reply = reply;
+      sized = sized;
       more = ys;
       rest = rest;
       exchanges = ap (λ (body : List ℕ). record { route = request.route; body = body; reply = reply } ∷ ys) (sym there.body);
@@ -44,14 +46,15 @@ goes_on total left used b xs out request reply so_far is stays more ys rest end 
     rw (append_assoc used (take request.stop b) more, append_assoc xs (x ∷ []) ys, append_assoc out (reply_response reply false) rest) whole
 
 pub ends_last : (total left : ℕ) (used b after : List ℕ) (xs : List Exchange) (out : List ℕ) (request : Request) (reply : Result (List ℕ) Refusal)
-    → Continues total (suc left) used xs out → IsRequest b request → (request.close || left == 0) ≡ true
+    → IsSized reply → Continues total (suc left) used xs out → IsRequest b request → (request.close || left == 0) ≡ true
     → Session total (used ++ (take request.stop b ++ after)) (xs ++ exchange b request reply ∷ []) (out ++ reply_response reply true) last
 unfolding Session
-ends_last total left used b after xs out request reply so_far is shut =
+ends_last total left used b after xs out request reply sized so_far is shut =
     let x : Exchange = exchange b request reply in
     let there : StillThere b after request = still_there b after request is in
     let turn : Turn (Session left) (request.close || left == 0) request.route (slice_range (take request.stop b ++ after) request.start request.stop) (drop request.stop (take request.stop b ++ after)) (x ∷ []) (reply_response reply true) last = record {
       reply = reply;
+      sized = sized;
       more = [];
       rest = [];
       exchanges = ap (λ (body : List ℕ). record { route = request.route; body = body; reply = reply } ∷ []) (sym there.body);

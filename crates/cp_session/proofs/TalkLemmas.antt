@@ -1,10 +1,11 @@
 -- A session so far.
-use Rattle.std.proofs.Common.{◌≡◌, ℕ, suc, zero, ◌+◌, ◌-◌, ◌<◌, ◌≤◌, ◌==◌, ◌||◌, Bool, true, false, List, [], ◌∷◌, ◌++◌, length, take, drop, refl, ap, sym, ◌∙◌, subst, inl, arith, append_assoc, length-append, Option, Result, Ok, Err}
+use Rattle.std.proofs.Common.{◌≡◌, ℕ, suc, zero, ◌+◌, ◌-◌, ◌<◌, ◌==◌, ◌||◌, Bool, true, false, List, [], ◌∷◌, ◌++◌, length, take, drop, refl, ap, sym, ◌∙◌, subst, inl, arith, append_assoc, length-append, Option, Result, Err}
 use Rattle.std.specs.List.{slice_range}
 use Rattle.std.specs.Io.KnownBytes.{Appends, Consumes}
 use Rattle.std.proofs.KnownBytes.{Consumes-nil, Consumes-trans, Appends-nil, Appends-trans}
+use Rattle.std.proofs.lemmas.Grind.{flat_map-append}
 use Rattle.std.proofs.lemmas.List.{append-nil, take-append-drop, length-take-le}
-use Rattle.cp_outside.specs.Causes.{AppendsPrefix}
+use Rattle.cp_outside.specs.Causes.{AppendsPart}
 use Rattle.cp_session.specs.declared.routes.Route.{Route}
 use Rattle.cp_session.specs.declared.refusals.Refusal.{Refusal}
 use Rattle.cp_session.specs.declared.rejections.Rejection.{Rejection}
@@ -12,12 +13,12 @@ use Rattle.cp_session.specs.declared.requests.Request.{Request}
 use Rattle.cp_session.specs.declared.fronts.Front.TheVariants.{Waiting}
 use Rattle.cp_session.specs.declared.session_ends.SessionEnd.{SessionEnd}
 use Rattle.cp_session.specs.declared.session_ends.SessionEnd.TheVariants.{WriteFault, OutOfMemory}
+use Rattle.cp_session.specs.Replies.{IsSized}
 use Rattle.cp_session.specs.Responses.{reply_response, rejection_response}
 use Rattle.cp_session.specs.Fronts.{FrontIs, IsRequest, IsRejected}
-use Rattle.cp_session.specs.Sessions.{Exchange, Leads, Session, waits, last, rejected}
+use Rattle.cp_session.specs.Sessions.{Exchange, Leads, Session, Ending, waits, last, rejected}
 use Rattle.cp_session.specs.Traffic.{Grows}
-use Rattle.cp_session.specs.Endings.{IsServed, Outcome}
-use Rattle.cp_session.proofs.TrafficLemmas.{part_sent}
+use Rattle.cp_session.specs.Endings.{IsServed, Outcome, CutOff, IsLastResponse, responses_of}
 use Rattle.cp_session.proofs.FrontLemmas.{window_empty}
 use Rattle.cp_session.proofs.SessionLemmas.{Continues, exchange, starts, goes_on, ends_last, ends_rejected, ends_waiting}
 
@@ -35,9 +36,28 @@ pub record Talk {D : Type 0} (Step : D → Route → List ℕ → Result (List �
   pub consumed : Consumes left_old left_new (used ++ inbox)
   pub written : Appends held_old held_new out
   pub leads : Leads Step old exchanges new
+  pub answers : out ≡ responses_of exchanges
   pub size : length used ≡ taken
   pub count : length exchanges + left ≡ 10000
   pub so_far : Continues 10000 left used exchanges out
+
+-- the responses with one more
+one_response_more : (xs : List Exchange) (x : Exchange) (out : List ℕ) → out ≡ responses_of xs → out ++ reply_response x.reply false ≡ responses_of (xs ++ x ∷ [])
+one_response_more xs x out is =
+    ap (λ (o : List ℕ). o ++ reply_response x.reply false) is
+    ∙ sym (flat_map-append (λ (y : Exchange). reply_response y.reply false) xs (x ∷ []) ∙ ap (λ (o : List ℕ). responses_of xs ++ o) (append-nil (reply_response x.reply false)))
+
+-- a part of the last response, behind those to these exchanges
+cut_off : (a b c : Option (List ℕ)) (answered xs : List Exchange) (out response : List ℕ) (end : Ending) → Appends a b out → out ≡ responses_of answered → AppendsPart b c response
+    → IsLastResponse answered xs response end → CutOff a c xs end
+cut_off a b c answered xs out response end whole is part next = record {
+  answered = answered;
+  response = response;
+  is_last = next;
+  n = part.0;
+  short = part.1;
+  written = subst (λ (o : List ℕ). Appends a c (o ++ take part.0 response)) is (Appends-trans a b c out (take part.0 response) whole part.2);
+}
 
 pub left_some : (left : ℕ) (close : Bool) → (close || left == 0) ≡ false → 0 < left
 left_some zero true e = absurd (cc)
@@ -59,6 +79,7 @@ module _ {D : Type 0} (Step : D → Route → List ℕ → Result (List ℕ) Ref
         (Consumes-trans l0 l1 l2 (talk.used ++ inbox) (drop (length inbox) more) talk.consumed grows.consumed);
     written = subst (λ (h : Option (List ℕ)). Appends h0 h talk.out) (sym same) talk.written;
     leads = talk.leads;
+    answers = talk.answers;
     size = talk.size;
     count = ap (λ n. length talk.exchanges + n) (sym is) ∙ talk.count;
     so_far = subst (λ (n : ℕ). Continues 10000 n talk.used talk.exchanges talk.out) is talk.so_far;
@@ -84,7 +105,7 @@ module _ {D : Type 0} (Step : D → Route → List ℕ → Result (List ℕ) Ref
 
   -- the last response tells a rejection
   pub over_rejected : (left taken : ℕ) (inbox : List ℕ) (result : Result ℕ SessionEnd) (rejection : Rejection) (h2 l2 : Option (List ℕ)) → Talk Step d0 d1 l0 l1 h0 h1 (suc left) taken inbox → IsRejected inbox rejection → l2 ≡ l1
-      → ((xs : List Exchange) (read out : List ℕ) → length xs + suc left ≡ 10000 → Appends h0 h1 out → Outcome result l2 h0 h2 read xs (out ++ rejection_response rejection) [] rejected)
+      → ((xs : List Exchange) (read out : List ℕ) → length xs + suc left ≡ 10000 → Appends h0 h1 out → out ≡ responses_of xs → Outcome result l2 h0 h2 read xs (out ++ rejection_response rejection) [] rejected)
       → IsServed Step d0 d1 l0 l2 h0 h2 result
   over_rejected left taken inbox result rejection h2 l2 talk is same outcome = record {
     read = talk.used ++ inbox;
@@ -97,15 +118,15 @@ module _ {D : Type 0} (Step : D → Route → List ℕ → Result (List ℕ) Ref
     split = sym (append-nil (talk.used ++ inbox));
     session = ends_rejected 10000 left talk.used inbox talk.exchanges talk.out rejection talk.so_far is;
     leads = talk.leads;
-    outcome = outcome talk.exchanges (talk.used ++ inbox) talk.out talk.count talk.written;
+    outcome = outcome talk.exchanges (talk.used ++ inbox) talk.out talk.count talk.written talk.answers;
   }
 
   -- one exchange more, and the session goes on
   pub answered : (left taken : ℕ) (inbox : List ℕ) (request : Request) (reply : Result (List ℕ) Refusal) (d2 : D) (l2 h2 : Option (List ℕ))
-      → Talk Step d0 d1 l0 l1 h0 h1 (suc left) taken inbox → IsRequest inbox request → (request.close || left == 0) ≡ false
+      → IsSized reply → Talk Step d0 d1 l0 l1 h0 h1 (suc left) taken inbox → IsRequest inbox request → (request.close || left == 0) ≡ false
       → Step d1 request.route (slice_range inbox request.start request.stop) reply d2 → l2 ≡ l1 → Appends h1 h2 (reply_response reply false)
       → Talk Step d0 d2 l0 l2 h0 h2 left (taken + request.stop) (drop request.stop inbox)
-  answered left taken inbox request reply d2 l2 h2 talk is stays step same written =
+  answered left taken inbox request reply d2 l2 h2 sized talk is stays step same written =
       let x : Exchange = exchange inbox request reply in
       record {
         used = talk.used ++ take request.stop inbox;
@@ -115,18 +136,20 @@ module _ {D : Type 0} (Step : D → Route → List ℕ → Result (List ℕ) Ref
             (subst (λ (l : Option (List ℕ)). Consumes l0 l (talk.used ++ inbox)) (sym same) talk.consumed);
         written = Appends-trans h0 h1 h2 talk.out (reply_response reply false) talk.written written;
         leads = leads_more Step d0 d1 d2 talk.exchanges x talk.leads step;
+        answers = one_response_more talk.exchanges x talk.out talk.answers;
         size = length-append talk.used (take request.stop inbox) ∙ ap (λ n. n + length (take request.stop inbox)) talk.size ∙ ap (λ n. taken + n) (length-take-le request.stop inbox is.within);
         count = ap (λ n. n + left) (length-append talk.exchanges (x ∷ [])) ∙ omega (arith, talk.count);
-        so_far = goes_on 10000 left talk.used inbox talk.exchanges talk.out request reply talk.so_far is stays;
+        so_far = goes_on 10000 left talk.used inbox talk.exchanges talk.out request reply sized talk.so_far is stays;
       }
 
   -- the last exchange
   pub over_answered : (left taken : ℕ) (inbox : List ℕ) (request : Request) (reply : Result (List ℕ) Refusal) (d2 : D) (l2 h2 : Option (List ℕ)) (result : Result ℕ SessionEnd)
-      → Talk Step d0 d1 l0 l1 h0 h1 (suc left) taken inbox → IsRequest inbox request → (request.close || left == 0) ≡ true
+      → IsSized reply → Talk Step d0 d1 l0 l1 h0 h1 (suc left) taken inbox → IsRequest inbox request → (request.close || left == 0) ≡ true
       → Step d1 request.route (slice_range inbox request.start request.stop) reply d2 → l2 ≡ l1
-      → ((xs : List Exchange) (read out : List ℕ) → length xs + left ≡ 10000 → Appends h0 h1 out → Outcome result l2 h0 h2 read xs (out ++ reply_response reply true) [] last)
+      → ((xs : List Exchange) (x : Exchange) (read out : List ℕ) → x.reply ≡ reply → length (xs ++ x ∷ []) + left ≡ 10000 → Appends h0 h1 out → out ≡ responses_of xs
+      → Outcome result l2 h0 h2 read (xs ++ x ∷ []) (out ++ reply_response reply true) [] last)
       → IsServed Step d0 d2 l0 l2 h0 h2 result
-  over_answered left taken inbox request reply d2 l2 h2 result talk is shut step same outcome =
+  over_answered left taken inbox request reply d2 l2 h2 result sized talk is shut step same outcome =
       let x : Exchange = exchange inbox request reply in
       record {
         read = talk.used ++ inbox;
@@ -138,9 +161,9 @@ module _ {D : Type 0} (Step : D → Route → List ℕ → Result (List ℕ) Ref
         consumed = subst (λ (l : Option (List ℕ)). Consumes l0 l (talk.used ++ inbox)) (sym same) talk.consumed;
         split = sym (append-nil (talk.used ++ inbox));
         session = subst (λ (b : List ℕ). Session 10000 (talk.used ++ b) (talk.exchanges ++ x ∷ []) (talk.out ++ reply_response reply true) last) (take-append-drop request.stop inbox)
-            (ends_last 10000 left talk.used inbox (drop request.stop inbox) talk.exchanges talk.out request reply talk.so_far is shut);
+            (ends_last 10000 left talk.used inbox (drop request.stop inbox) talk.exchanges talk.out request reply sized talk.so_far is shut);
         leads = leads_more Step d0 d1 d2 talk.exchanges x talk.leads step;
-        outcome = outcome (talk.exchanges ++ x ∷ []) (talk.used ++ inbox) talk.out (ap (λ n. n + left) (length-append talk.exchanges (x ∷ [])) ∙ omega (arith, talk.count)) talk.written;
+        outcome = outcome talk.exchanges x (talk.used ++ inbox) talk.out refl (ap (λ n. n + left) (length-append talk.exchanges (x ∷ [])) ∙ omega (arith, talk.count)) talk.written talk.answers;
       }
 
 -- nothing was read or written
@@ -160,20 +183,21 @@ wanted Step d l h = record {
 }
 
 pub fault_rejected : {D : Type 0} (Step : D → Route → List ℕ → Result (List ℕ) Refusal → D → Type 0) (d0 d1 : D) (l0 l1 h0 h1 : Option (List ℕ)) (left taken : ℕ) (inbox : List ℕ) (rejection : Rejection) (h2 l2 : Option (List ℕ))
-    → Talk Step d0 d1 l0 l1 h0 h1 (suc left) taken inbox → IsRejected inbox rejection → l2 ≡ l1 → AppendsPrefix h1 h2 (rejection_response rejection) → IsServed Step d0 d1 l0 l2 h0 h2 (Err WriteFault)
+    → Talk Step d0 d1 l0 l1 h0 h1 (suc left) taken inbox → IsRejected inbox rejection → l2 ≡ l1 → AppendsPart h1 h2 (rejection_response rejection) → IsServed Step d0 d1 l0 l2 h0 h2 (Err WriteFault)
 fault_rejected Step d0 d1 l0 l1 h0 h1 left taken inbox rejection h2 l2 talk is same front =
-    over_rejected Step d0 d1 l0 l1 h0 h1 left taken inbox (Err WriteFault) rejection h2 l2 talk is same (λ xs read out n w. part_sent h0 h1 h2 out (rejection_response rejection) w front)
+    over_rejected Step d0 d1 l0 l1 h0 h1 left taken inbox (Err WriteFault) rejection h2 l2 talk is same (λ xs read out n w a. cut_off h0 h1 h2 xs xs out (rejection_response rejection) rejected w a front (refl, (rejection, refl)))
 
 -- the session of the requests up to this one, whose response was written in part
 pub fault_answered : {D : Type 0} (Step : D → Route → List ℕ → Result (List ℕ) Refusal → D → Type 0) (d0 d1 : D) (l0 l1 h0 h1 : Option (List ℕ)) (left taken : ℕ) (inbox : List ℕ) (request : Request) (final : Bool) (reply : Result (List ℕ) Refusal) (d2 : D) (l2 h2 : Option (List ℕ))
-    → Talk Step d0 d1 l0 l1 h0 h1 (suc left) taken inbox → IsRequest inbox request → final ≡ (request.close || left == 0)
-    → Step d1 request.route (slice_range inbox request.start request.stop) reply d2 → l2 ≡ l1 → AppendsPrefix h1 h2 (reply_response reply final) → IsServed Step d0 d2 l0 l2 h0 h2 (Err WriteFault)
-fault_answered Step d0 d1 l0 l1 h0 h1 left taken inbox request true reply d2 l2 h2 talk is final_is step same front =
-    over_answered Step d0 d1 l0 l1 h0 h1 left taken inbox request reply d2 l2 h2 (Err WriteFault) talk is (sym final_is) step same (λ xs read out n w. part_sent h0 h1 h2 out (reply_response reply true) w front)
-fault_answered Step d0 d1 l0 l1 h0 h1 left taken inbox request false reply d2 l2 h2 talk is final_is step same front =
+    → IsSized reply → Talk Step d0 d1 l0 l1 h0 h1 (suc left) taken inbox → IsRequest inbox request → final ≡ (request.close || left == 0)
+    → Step d1 request.route (slice_range inbox request.start request.stop) reply d2 → l2 ≡ l1 → AppendsPart h1 h2 (reply_response reply final) → IsServed Step d0 d2 l0 l2 h0 h2 (Err WriteFault)
+fault_answered Step d0 d1 l0 l1 h0 h1 left taken inbox request true reply d2 l2 h2 sized talk is final_is step same front =
+    over_answered Step d0 d1 l0 l1 h0 h1 left taken inbox request reply d2 l2 h2 (Err WriteFault) sized talk is (sym final_is) step same
+    (λ xs x read out of n w a. cut_off h0 h1 h2 xs (xs ++ x ∷ []) out (reply_response reply true) last w a front (x, refl, ap (λ (r : Result (List ℕ) Refusal). reply_response r true) (sym of)))
+fault_answered Step d0 d1 l0 l1 h0 h1 left taken inbox request false reply d2 l2 h2 sized talk is final_is step same front =
     let x : Exchange = exchange inbox request reply in
     let some : 0 < left = left_some left request.close (sym final_is) in
-    let later : Continues 10000 left (talk.used ++ take request.stop inbox) (talk.exchanges ++ x ∷ []) (talk.out ++ reply_response reply false) = goes_on 10000 left talk.used inbox talk.exchanges talk.out request reply talk.so_far is (sym final_is) in
+    let later : Continues 10000 left (talk.used ++ take request.stop inbox) (talk.exchanges ++ x ∷ []) (talk.out ++ reply_response reply false) = goes_on 10000 left talk.used inbox talk.exchanges talk.out request reply sized talk.so_far is (sym final_is) in
     record {
       read = talk.used ++ inbox;
       used = talk.used ++ take request.stop inbox;
@@ -187,7 +211,7 @@ fault_answered Step d0 d1 l0 l1 h0 h1 left taken inbox request false reply d2 l2
           (ends_waiting 10000 (left - 1) (talk.used ++ take request.stop inbox) [] (talk.exchanges ++ x ∷ []) (talk.out ++ reply_response reply false)
           (subst (λ (n : ℕ). Continues 10000 n (talk.used ++ take request.stop inbox) (talk.exchanges ++ x ∷ []) (talk.out ++ reply_response reply false)) (omega arith) later) nothing_waits);
       leads = leads_more Step d0 d1 d2 talk.exchanges x talk.leads step;
-      outcome = part_sent h0 h1 h2 talk.out (reply_response reply false) talk.written front;
+      outcome = cut_off h0 h1 h2 talk.exchanges (talk.exchanges ++ x ∷ []) talk.out (reply_response reply false) (waits []) talk.written talk.answers front (x, refl, refl);
     }
 
 pub talk_starts : {D : Type 0} (Step : D → Route → List ℕ → Result (List ℕ) Refusal → D → Type 0) (d : D) (l h : Option (List ℕ)) → Talk Step d d l l h h 10000 0 []
@@ -198,6 +222,7 @@ talk_starts Step d l h = record {
   consumed = Consumes-nil l;
   written = Appends-nil h;
   leads = refl;
+  answers = refl;
   size = refl;
   count = refl;
   so_far = starts 10000;

@@ -1,10 +1,10 @@
 -- A piece that was read, and a response in two pieces.
-use Rattle.std.proofs.Common.{◌≡◌, ℕ, ◌+◌, ◌≤◌, List, [], ◌++◌, length, take, drop, refl, ap, sym, ◌∙◌, subst, arith, length-append, Option, append_assoc}
+use Rattle.std.proofs.Common.{◌≡◌, ℕ, ◌+◌, List, [], ◌++◌, length, take, drop, refl, ap, sym, ◌∙◌, subst, arith, length-append, Option, append_assoc}
 use Rattle.std.specs.Io.KnownBytes.{Appends, Consumes}
 use Rattle.std.proofs.KnownBytes.{Consumes-nil, Consumes-trans, Appends-trans}
 use Rattle.std.proofs.lemmas.List.{append-nil, take-append-le}
 use Rattle.std.proofs.Math.Seq.{drop-append_seam, take-append-add}
-use Rattle.cp_outside.specs.Causes.{AppendsPrefix}
+use Rattle.cp_outside.specs.Causes.{AppendsPart}
 use Rattle.cp_session.specs.Traffic.{Grows}
 
 pub grows_by : (old new piece : List ℕ) (before after : Option (List ℕ)) → new ≡ old ++ piece → Consumes before after piece → Grows old new before after
@@ -32,14 +32,14 @@ pub ruleset hearing = (grows_start, grows_more)
 pub all_sent : (a b c : Option (List ℕ)) (head body : List ℕ) → Appends a b head → Appends b c body → Appends a c (head ++ body)
 all_sent a b c head body first second = Appends-trans a b c head body first second
 
-pub part_sent : (a b c : Option (List ℕ)) (head body : List ℕ) → Appends a b head → AppendsPrefix b c body → AppendsPrefix a c (head ++ body)
+pub part_sent : (a b c : Option (List ℕ)) (head body : List ℕ) → Appends a b head → AppendsPart b c body → AppendsPart a c (head ++ body)
 part_sent a b c head body first second = (
   length head + second.0,
   omega (arith, length-append head body, second.1),
   subst (λ (p : List ℕ). Appends a c p) (sym (take-append-add head body second.0)) (Appends-trans a b c head (take second.0 body) first second.2),
 )
 
-pub head_part_sent : (a b : Option (List ℕ)) (head body : List ℕ) → AppendsPrefix a b head → AppendsPrefix a b (head ++ body)
-head_part_sent a b head body first = (first.0, omega (arith, length-append head body, first.1), subst (λ (p : List ℕ). Appends a b p) (sym (take-append-le first.0 head body first.1)) first.2)
+pub head_part_sent : (a b : Option (List ℕ)) (head body : List ℕ) → AppendsPart a b head → AppendsPart a b (head ++ body)
+head_part_sent a b head body first = (first.0, omega (arith, length-append head body, first.1), subst (λ (p : List ℕ). Appends a b p) (sym (take-append-le first.0 head body (omega (arith, first.1)))) first.2)
 
 pub ruleset sending = (all_sent, part_sent, head_part_sent)

@@ -8,3 +8,4 @@ pub mod Sessions
 pub mod Traffic
 pub mod Endings
 pub mod Laws
+pub mod Gets

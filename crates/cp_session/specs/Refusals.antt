@@ -1,5 +1,5 @@
 -- Refusals of a desk: their statuses and texts (this project's own).
-use Rattle.std.specs.Prelude.{ℕ, List, ◌++◌, codes, decimal}
+use Rattle.std.specs.Prelude.{ℕ, List, [], ◌∷◌, ◌++◌, codes, decimal}
 use Rattle.cp_session.specs.declared.refusals.Refusal.{Refusal}
 use Rattle.cp_session.specs.declared.refusals.Refusal.TheVariants.{Malformed, WrongStore, NotAWriter, BadSignature, ContentMismatch, NotClosed, NoVerdict, WrongEpoch, NonceUsed, Overtaken, StaleVersion, ContentTooLong, LeavesOver, ClosingsOver, PoolFull, BoxFull, OutOfMemory}
 
@@ -42,3 +42,23 @@ text_of (ClosingsOver sealed limit) = codes "ClosingsOver sealed=" ++ decimal se
 text_of (PoolFull free need) = codes "PoolFull free=" ++ decimal free ++ codes " need=" ++ decimal need
 text_of (BoxFull held) = codes "BoxFull held=" ++ decimal held
 text_of OutOfMemory = codes "OutOfMemory"
+
+-- the numbers that a refusal's text tells
+abbrev pub numbers_of : Refusal → List ℕ
+numbers_of (Malformed at) = at ∷ []
+numbers_of WrongStore = []
+numbers_of (NotAWriter family client) = family ∷ client ∷ []
+numbers_of BadSignature = []
+numbers_of ContentMismatch = []
+numbers_of (NotClosed count) = count ∷ []
+numbers_of (NoVerdict count) = count ∷ []
+numbers_of (WrongEpoch current) = current ∷ []
+numbers_of (NonceUsed position) = position ∷ []
+numbers_of (Overtaken latest) = latest ∷ []
+numbers_of (StaleVersion latest) = latest ∷ []
+numbers_of (ContentTooLong size) = size ∷ []
+numbers_of (LeavesOver drawn limit) = drawn ∷ limit ∷ []
+numbers_of (ClosingsOver sealed limit) = sealed ∷ limit ∷ []
+numbers_of (PoolFull free need) = free ∷ need ∷ []
+numbers_of (BoxFull held) = held ∷ []
+numbers_of OutOfMemory = []

@@ -1,5 +1,6 @@
 -- The session of a connection: what it writes for the bytes that it reads and the desk's replies (this project's own).
-use Rattle.std.specs.Prelude.{◌≡◌, ℕ, suc, zero, ◌==◌, ◌||◌, Bool, true, false, List, [], ◌∷◌, ◌++◌, length, drop, slice_range, Result}
+use Rattle.std.specs.Prelude.{◌≡◌, ℕ, suc, zero, ◌==◌, ◌||◌, Bool, true, false, List, [], ◌∷◌, ◌++◌, drop, slice_range, Result}
+use Rattle.cp_session.specs.Replies.{IsSized}
 use Rattle.cp_session.specs.Responses.{reply_response, rejection_response}
 use Rattle.cp_session.specs.Fronts.{FrontIs}
 use Rattle.cp_session.specs.declared.routes.Route.{Route}
@@ -23,9 +24,10 @@ pub data Ending : Type 0 where
   waits : List ℕ → Ending
   last rejected : Ending
 
--- one exchange, and then the end, or what goes on behind the request
+-- one exchange, whose reply has the machine's values, and then the end, or what goes on behind the request
 pub record Turn (next : List ℕ → List Exchange → List ℕ → Ending → Type 0) (final : Bool) (route : Route) (body after : List ℕ) (xs : List Exchange) (out : List ℕ) (end : Ending) : Type 0 where
   pub reply : Result (List ℕ) Refusal
+  pub sized : IsSized reply
   pub more : List Exchange
   pub rest : List ℕ
   pub exchanges : xs ≡ record { route = route; body = body; reply = reply } ∷ more

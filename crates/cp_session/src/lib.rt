@@ -20,7 +20,7 @@ mod serving;
 mod session_ends;
 
 pub use desks::Desk;
-pub use laws::session_is_fixed;
+pub use laws::{replies_are_fixed, session_is_fixed};
 pub use part_names::PartName;
 pub use refusals::Refusal;
 pub use rejections::Rejection;

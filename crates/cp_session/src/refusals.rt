@@ -1,5 +1,5 @@
 //! Why a desk refuses a request.
-ghost use Rattle.std.specs.Prelude.{◌≡◌, ◌+◌, ◌≤◌, ◌++◌, [], codes, decimal, length, Some};
+ghost use Rattle.std.specs.Prelude.{◌≡◌, ◌+◌, ◌<◌, ◌≤◌, ◌^◌, ◌++◌, [], codes, decimal, length, Some};
 ghost use Rattle.cp_http.specs.Statuses.{IsStatus};
 
 use cp_http::ShortText;
@@ -55,7 +55,8 @@ fn push_number(text: &mut ShortText, field: &[u8], number: u64)
 }
 
 impl Refusal {
-    ghost use Rattle.cp_session.specs.Refusals.{status_of, text_of};
+    ghost use Rattle.std.specs.List.{AllByRecursion};
+    ghost use Rattle.cp_session.specs.Refusals.{status_of, text_of, numbers_of};
 
     /// The status of the response that tells it.
     pub fn status(self) -> u16
@@ -81,6 +82,9 @@ impl Refusal {
     pub fn text(self) -> ShortText
         ensures text { result ≡ text_of self }
         ensures size { length result ≤ 100 }
+
+        // Its numbers are below 2 ^ 64, as those of a u64 are.
+        ensures numbers { AllByRecursion (λ n. n < 2 ^ 64) (numbers_of self) }
     {
         let mut text = ShortText::new();
         match self {

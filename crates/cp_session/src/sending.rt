@@ -3,7 +3,7 @@ ghost use Rattle.std.specs.Prelude.{◌≡◌, ◌<◌, ◌≤◌, ◌++◌, [],
 ghost use Rattle.cp_outside.specs.Causes.{HasCause};
 ghost use Rattle.cp_http.specs.Statuses.{IsStatus};
 ghost use Rattle.cp_http.specs.Responses.{response};
-ghost use Rattle.cp_session.specs.Replies.{reply_of};
+ghost use Rattle.cp_session.specs.Replies.{reply_of, IsSized};
 ghost use Rattle.cp_session.specs.Responses.{reply_response, rejection_response};
 ghost use Rattle.cp_session.specs.Traffic.{Sends};
 
@@ -45,6 +45,8 @@ pub(crate) fn send_reply<C: Sink>(
     body: &[u8],
     last: bool,
 ) -> Result<(), Failed>
+    // The reply has the machine's values.
+    ensures sized { IsSized (reply_of outcome body.now) }
     ensures bytes { Sends (C.held conn.old) (C.held conn.new) result (reply_response (reply_of outcome body.now) last) }
     ensures cause { HasCause (C.write_faults conn.old) (C.write_faults conn.new) result }
     ensures left { C.left conn.new ≡ C.left conn.old }

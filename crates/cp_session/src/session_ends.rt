@@ -7,7 +7,8 @@ pub enum SessionEnd {
     Truncated { taken: u64 },
     /// A read failed. All whole requests have their responses.
     ReadFault,
-    /// A write failed. What was written is a prefix of the session of the requests so far.
+    /// A write failed. All responses before the last were written whole, and of the last a part; the
+    /// desk got no request behind it.
     WriteFault,
     /// There was no memory to begin with: nothing was read or written.
     OutOfMemory,

@@ -11,12 +11,12 @@ use Rattle.cp_evidence.specs.Verdict.Verdict.{Clean, Guilty}
 use Rattle.cp_tool.specs.AuditRuns.{AnswerEnds, AuditEnds, AuditFiles, Input, Sources, answered, bytes_of, named, own, own_before, sources_of, verdict_of}
 use Rattle.cp_commands.specs.AuditWords.{AuditWords}
 use Rattle.cp_endings.specs.Endings.{Outcome}
-use Rattle.cp_tool.specs.Folders.{Files, Stops, input_of}
+use Rattle.cp_tool.specs.Folders.{Files, FolderFailed, Stops, input_of}
 use Rattle.cp_endings.specs.declared.epoch_part.EpochPart.TheVariants.{Families, Closing, Table, Log}
 
 -- ---- refusals end with 3
 
-abbrev Refuses3 : {A : Type 0} → Result A Outcome → Type 0
+abbrev pub Refuses3 : {A : Type 0} → Result A Outcome → Type 0
 Refuses3 (Ok x) = Unit {0}
 Refuses3 (Err ending) = ending.status ≡ 3
 
@@ -36,7 +36,7 @@ bytes_3 : (input : Option Input) (content : Option (List ℕ)) → Refuses3 (byt
 bytes_3 None content = tt
 bytes_3 (Some input) content = input_3 content input.name input.limit
 
-sources_3 : (words : AuditWords) (files : AuditFiles) → Refuses3 (sources_of words files)
+pub sources_3 : (words : AuditWords) (files : AuditFiles) → Refuses3 (sources_of words files)
 sources_3 words files = step (bytes_of (named words.key 56) files.key) _ (bytes_3 (named words.key 56) files.key) (λ key. step (bytes_of (own Families words.epoch 1048576) files.families) _ (bytes_3 (own Families words.epoch 1048576) files.families) (λ families. step (bytes_of (own_before Closing words.epoch 16384) files.before) _ (bytes_3 (own_before Closing words.epoch 16384) files.before) (λ before. step (bytes_of (own Closing words.epoch 16384) files.closing) _ (bytes_3 (own Closing words.epoch 16384) files.closing) (λ closing. step (bytes_of (own_before Table words.epoch 16777216) files.table_before) _ (bytes_3 (own_before Table words.epoch 16777216) files.table_before) (λ table_before. step (bytes_of (own Table words.epoch 16777216) files.table) _ (bytes_3 (own Table words.epoch 16777216) files.table) (λ table. step (bytes_of (own Log words.epoch 335544320) files.log) _ (bytes_3 (own Log words.epoch 335544320) files.log) (λ log. step (bytes_of (named words.hand_ins 67108864) files.hand_ins) _ (bytes_3 (named words.hand_ins 67108864) files.hand_ins) (λ hand_ins. tt))))))))
 
 answered_3 : (key : List ℕ) (r : Result Verdict Refused) → Refuses3 (answered key r)
@@ -82,10 +82,10 @@ stops_4 : (before now : ℕ) (ending : Outcome) → Stops before now ending → 
 stops_4 before now ending (inl failed) e = failed.1
 stops_4 before now ending (inr memory) e = absurd (omega (arith, e, ap (λ o. o.status) memory))
 
-answer_4 : (r : Result (List ℕ × Verdict) Outcome) (out : List ℕ) (old new : Files) (ending : Outcome) → Refuses3 r → AnswerEnds r out old new ending → ending.status ≡ 4 → Rose old.faults new.faults
+answer_4 : (r : Result (List ℕ × Verdict) Outcome) (out : List ℕ) (old new : Files) (ending : Outcome) → Refuses3 r → AnswerEnds r out old new ending → ending.status ≡ 4 → Rose old.write_faults new.write_faults
 answer_4 (Ok answer) out old new ending three ends e = go answer.1 ends
   where
-    go : (v : Verdict) → AnswerEnds (Ok (answer.0, v)) out old new ending → Rose old.faults new.faults
+    go : (v : Verdict) → AnswerEnds (Ok (answer.0, v)) out old new ending → Rose old.write_faults new.write_faults
     go (Clean entries handed aside) h = absurd (omega (arith, e, ap (λ o. o.status) h.0))
     go (Guilty evidence) h =
         elim h.written [
@@ -94,9 +94,9 @@ answer_4 (Ok answer) out old new ending three ends e = go answer.1 ends
         ]
 answer_4 (Err refusal) out old new ending three ends e = absurd (omega (arith, e, three, ap (λ o. o.status) ends.0))
 
-pub audit_4 : (words : AuditWords) (old new : Files) (ending : Outcome) → AuditEnds words old new ending → ending.status ≡ 4 → Rose old.faults new.faults
+pub audit_4 : (words : AuditWords) (old new : Files) (ending : Outcome) → AuditEnds words old new ending → ending.status ≡ 4 → FolderFailed old new
 audit_4 words old new ending ends e =
     elim ends.ends [
-      | inl answer ↦ answer_4 (sources_of words ends.files >>= verdict_of) words.out old new ending (step (sources_of words ends.files) verdict_of (sources_3 words ends.files) verdict_3) answer e
-      | inr stops ↦ stops_4 _ _ ending stops.0 e
+      | inl answer ↦ inr (answer_4 (sources_of words ends.files >>= verdict_of) words.out old new ending (step (sources_of words ends.files) verdict_of (sources_3 words ends.files) verdict_3) answer e)
+      | inr stops ↦ inl (stops_4 _ _ ending stops.0 e)
     ]

@@ -21,7 +21,9 @@ use Rattle.cp_guilt.proofs.HonestLemmas.{honest_clean}
 use Rattle.cp_guilt.proofs.OwnLemmas.{own_clean}
 use Rattle.cp_guilt.proofs.OwnMaterial.{own_given}
 use Rattle.cp_tool.specs.AuditRuns.{AnswerEnds, AuditEnds, Sources, answered, files_in, sources_of, verdict_of}
-use Rattle.cp_tool.specs.AuditStatus.{AuditStatus, IsHandedOut, IsHonest, IsOwn, Readable}
+use Rattle.cp_tool.specs.AuditStatus.{AuditStatus, IsHandedOut, IsHonest, IsOwn, Readable, StatusOfFiles}
+use Rattle.cp_tool.specs.Statuses.{Unless}
+use Rattle.cp_tool.proofs.AuditRefusals.{Refuses3, sources_3}
 use Rattle.cp_commands.specs.AuditWords.{AuditWords}
 use Rattle.cp_commands.specs.Commands.{Command}
 use Rattle.cp_commands.specs.Commands.Command.{Audit}
@@ -84,12 +86,10 @@ module _ (sources : Sources) where
   module _ (evidence : Option (List ℕ)) (status : ℕ) where
     when_high : (status ≡ 4) ⊎ (status ≡ 5) → AuditStatus sources evidence status
     when_high high = record {
-      clean = λ e. absurd (not high 0 e (omega arith));
-      guilty = λ e. absurd (not high 1 e (omega arith));
+      clean = (λ e. absurd (not high 0 e (omega arith)), λ c. inr high);
+      guilty = (λ e. absurd (not high 1 e (omega arith)), λ c. inr high);
       evidence = λ e. absurd (not high 1 e (omega arith));
-      refused = λ e. absurd (not high 3 e (omega arith));
-      where_clean = λ x c. inr high;
-      where_guilty = λ x c. inr high;
+      refused = (λ e. absurd (not high 3 e (omega arith)), λ c. inr high);
       where_honest = λ x h. inr high;
       where_own = λ x h. inr high;
       where_handed_out = λ xs read h. inr high;
@@ -101,12 +101,10 @@ module _ (sources : Sources) where
 
     when_refused : status ≡ 3 → ¬ Readable sources → AuditStatus sources evidence status
     when_refused three unreadable = record {
-      clean = λ e. absurd (omega (arith, e, three));
-      guilty = λ e. absurd (omega (arith, e, three));
+      clean = (λ e. absurd (omega (arith, e, three)), λ c. absurd (unreadable c.0));
+      guilty = (λ e. absurd (omega (arith, e, three)), λ c. absurd (unreadable c.0));
       evidence = λ e. absurd (omega (arith, e, three));
-      refused = λ e. unreadable;
-      where_clean = λ x c. absurd (unreadable x);
-      where_guilty = λ x c. absurd (unreadable x);
+      refused = (λ e. unreadable, λ c. inl three);
       where_honest = λ x h. absurd (unreadable x);
       where_own = λ x h. absurd (unreadable x);
       where_handed_out = λ xs read h. absurd (unreadable (handed_out xs read h).0);
@@ -115,12 +113,10 @@ module _ (sources : Sources) where
     module _ (o : GivenEpoch) (hand_ins : List Envelope) (given : given_of sources.material ≡ Ok o) (read : hand_ins_of sources.hand_ins ≡ Ok hand_ins) where
       when_clean : guilt o hand_ins ≡ None → status ≡ 0 → AuditStatus sources evidence status
       when_clean none zero_is = record {
-        clean = λ e. (readable o hand_ins given read, clean_there o hand_ins given read none (readable o hand_ins given read));
-        guilty = λ e. absurd (omega (arith, e, zero_is));
+        clean = (λ e. (readable o hand_ins given read, clean_there o hand_ins given read none (readable o hand_ins given read)), λ c. inl zero_is);
+        guilty = (λ e. absurd (omega (arith, e, zero_is)), λ c. absurd (c.1 (clean_there o hand_ins given read none c.0)));
         evidence = λ e. absurd (omega (arith, e, zero_is));
-        refused = λ e. absurd (omega (arith, e, zero_is));
-        where_clean = λ x c. inl zero_is;
-        where_guilty = λ x not. absurd (not (clean_there o hand_ins given read none x));
+        refused = (λ e. absurd (omega (arith, e, zero_is)), λ c. absurd (c (readable o hand_ins given read)));
         where_honest = λ x h. inl zero_is;
         where_own = λ x h. inl zero_is;
         where_handed_out = λ xs read h. inl zero_is;
@@ -128,12 +124,10 @@ module _ (sources : Sources) where
 
       when_guilty : (e : Evidence) → guilt o hand_ins ≡ Some e → status ≡ 1 → evidence ≡ Some (evidence_text e) → length (evidence_text e) ≤ 536870912 → Convicts sources.material.key (evidence_text e) → AuditStatus sources evidence status
       when_guilty found some one written short convicts = record {
-        clean = λ e. absurd (omega (arith, e, one));
-        guilty = λ e. (readable o hand_ins given read, guilty_there o hand_ins given read found some (readable o hand_ins given read));
+        clean = (λ e. absurd (omega (arith, e, one)), λ c. absurd (guilty_there o hand_ins given read found some c.0 c.1));
+        guilty = (λ e. (readable o hand_ins given read, guilty_there o hand_ins given read found some (readable o hand_ins given read)), λ c. inl one);
         evidence = λ e. (evidence_text found, written, short, convicts);
-        refused = λ e. absurd (omega (arith, e, one));
-        where_clean = λ x c. absurd (guilty_there o hand_ins given read found some x c);
-        where_guilty = λ x not. inl one;
+        refused = (λ e. absurd (omega (arith, e, one)), λ c. absurd (c (readable o hand_ins given read)));
         where_honest = λ x h. absurd (guilty_there o hand_ins given read found some x (honest_there o hand_ins given read x h));
         where_own = λ x h. absurd (guilty_there o hand_ins given read found some x (own_there o hand_ins given read x h));
         where_handed_out = λ xs there h. let clean = handed_out xs there h in absurd (guilty_there o hand_ins given read found some clean.0 clean.1);
@@ -171,12 +165,30 @@ settled sources out old new ending status told (inr same) ends = by_key (key_rea
     by_key true e ends = by_given (given_of sources.material) refl (hand_ins_of sources.hand_ins) refl ends
 
 pub audit_status : {K : Type 0} (g : disk.Ghosts K) (command : Option Command) (old new : Files) (first last : K) (ending : Outcome) (held now : Option (List ℕ)) (before after status : ℕ) → CommandEnds g command old new first last ending → Reports held now before after ending status
-    → (words : AuditWords) (sources : Sources) → command ≡ Some (Audit words) → IsTrue old.tells → sources_of words (files_in old.file words) ≡ Ok sources → AuditStatus sources (new.file words.out) status
-audit_status g command old new first last ending held now before after status ends reports words sources is told read =
-    let audit : AuditEnds words old new ending = (subst (λ c. CommandEnds g c old new first last ending) is ends).0 in
-    let there : sources_of words audit.files ≡ Ok sources = ap (sources_of words) (audit.are_files told) ∙ read in
-    let answer : Answered status ending = reported held now before after ending status reports in
-    elim audit.ends [
-      | inl h ↦ settled sources words.out old new ending status told answer (subst (λ (r : Result Sources Outcome). AnswerEnds (r >>= verdict_of) words.out old new ending) there h)
-      | inr h ↦ when_high sources (new.file words.out) status (stopped _ _ ending status h.0 answer)
-    ]
+    → (words : AuditWords) → command ≡ Some (Audit words) → IsTrue old.tells → StatusOfFiles (sources_of words (files_in old.file words)) (new.file words.out) status
+audit_status g command old new first last ending held now before after status ends reports words is told = go (sources_of words (files_in old.file words)) refl
+  where
+    audit : AuditEnds words old new ending
+    audit = (subst (λ c. CommandEnds g c old new first last ending) is ends).0
+
+    answer : Answered status ending
+    answer = reported held now before after ending status reports
+
+    there : (r : Result Sources Outcome) → sources_of words (files_in old.file words) ≡ r → sources_of words audit.files ≡ r
+    there r read = ap (sources_of words) (audit.are_files told) ∙ read
+
+    refused : (refusal : Outcome) → refusal.status ≡ 3 → ending ≡ refusal → Answered status ending → Unless status 3
+    refused refusal three same (inl high) = inr high
+    refused refusal three same (inr answered) = inl (answered ∙ ap (λ z. z.status) same ∙ three)
+
+    go : (r : Result Sources Outcome) → sources_of words (files_in old.file words) ≡ r → StatusOfFiles r (new.file words.out) status
+    go (Ok sources) read =
+        elim audit.ends [
+          | inl h ↦ settled sources words.out old new ending status told answer (subst (λ (r : Result Sources Outcome). AnswerEnds (r >>= verdict_of) words.out old new ending) (there (Ok sources) read) h)
+          | inr h ↦ when_high sources (new.file words.out) status (stopped _ _ ending status h.0 answer)
+        ]
+    go (Err refusal) read =
+        elim audit.ends [
+          | inl h ↦ refused refusal (subst Refuses3 read (sources_3 words (files_in old.file words))) (subst (λ (r : Result Sources Outcome). AnswerEnds (r >>= verdict_of) words.out old new ending) (there (Err refusal) read) h).0 answer
+          | inr h ↦ inr (stopped _ _ ending status h.0 answer)
+        ]

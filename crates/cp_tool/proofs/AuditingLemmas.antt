@@ -22,7 +22,7 @@ use Rattle.cp_commands.specs.AuditWords.{AuditWords}
 use Rattle.cp_endings.specs.Endings.{Outcome, no_memory}
 use Rattle.cp_tool.specs.Folders.{Files, KeepsAll, Stops}
 use Rattle.cp_endings.specs.View.{ending_view}
-use Rattle.cp_tool.proofs.InputLemmas.{rose_before}
+use Rattle.cp_tool.proofs.InputLemmas.{stops_first}
 use Rattle.cp_tool.proofs.SizeLemmas.{sources_within}
 use Rattle.cp_endings.specs.declared.audit_ending.AuditEnding.TheVariants as audit_ending
 use Rattle.cp_tool.specs.declared.audit_sources.Sources as code
@@ -68,10 +68,10 @@ module _ (sources : Sources) where
 -- ---- the ending
 
 pub audit_unread : (words : AuditWords) (old new : Files) (ending : Ending) → ReadsSources words old new (Err ending) → AuditEnds words old new (ending_view ending)
-audit_unread words old new ending read = record { files = read.files; are_files = read.are_files; ends = ends read.gives; others = λ n ne. read.follows.kept n }
+audit_unread words old new ending read = record { files = read.files; are_files = read.are_files; ends = ends read.gives; others = λ n ne. read.follows.kept n; reads_first = stops_first old new (ending_view ending) read.failed read.follows.kept }
   where
-    ends : (sources_of words read.files ≡ Err (ending_view ending)) ⊎ Stops old.faults new.faults (ending_view ending)
-        → AnswerEnds (sources_of words read.files >>= verdict_of) words.out old new (ending_view ending) ⊎ (Stops old.faults new.faults (ending_view ending) × KeepsAll old new)
+    ends : (sources_of words read.files ≡ Err (ending_view ending)) ⊎ Stops old.read_faults new.read_faults (ending_view ending)
+        → AnswerEnds (sources_of words read.files >>= verdict_of) words.out old new (ending_view ending) ⊎ (Stops old.read_faults new.read_faults (ending_view ending) × KeepsAll old new)
     ends (inl refused) = inl (rw refused (refl, read.follows.kept))
     ends (inr stops) = inr (stops, read.follows.kept)
 
@@ -85,19 +85,21 @@ module _ (words : AuditWords) (old mid : Files) (s : code.Sources) (read : Reads
     are_files = read.are_files;
     ends = inl (subst (λ (r : Result (List ℕ × spec.Verdict) Outcome). AnswerEnds r words.out old mid (clean entries count aside)) (sym (verdict_there _ is)) (refl, read.follows.kept));
     others = λ n ne. read.follows.kept n;
+    reads_first = inl read.failed;
   }
 
   pub audit_refused : (ending : Ending) → Answers (sources_view words.epoch s) (Err ending) → AuditEnds words old mid (ending_view ending)
-  audit_refused ending is = record { files = read.files; are_files = read.are_files; ends = ends is; others = λ n ne. read.follows.kept n }
+  audit_refused ending is = record { files = read.files; are_files = read.are_files; ends = ends is; others = λ n ne. read.follows.kept n; reads_first = inl read.failed }
     where
       ends : (verdict_of (sources_view words.epoch s) ≡ Err (ending_view ending)) ⊎ (ending_view ending ≡ no_memory)
-          → AnswerEnds (sources_of words read.files >>= verdict_of) words.out old mid (ending_view ending) ⊎ (Stops old.faults mid.faults (ending_view ending) × KeepsAll old mid)
+          → AnswerEnds (sources_of words read.files >>= verdict_of) words.out old mid (ending_view ending) ⊎ (Stops old.read_faults mid.read_faults (ending_view ending) × KeepsAll old mid)
       ends (inl refused) = inl (subst (λ (r : Result (List ℕ × spec.Verdict) Outcome). AnswerEnds r words.out old mid (ending_view ending)) (sym (verdict_there _ refused)) (refl, read.follows.kept))
       ends (inr memory) = inr (inr memory, read.follows.kept)
 
   pub audit_guilty : (new : Files) (bytes : List ℕ) (ending : Outcome) → Answers (sources_view words.epoch s) (Ok (Guilty bytes))
-      → ((e : Evidence) → evidence_of bytes ≡ Ok e → WritesEvidence e bytes words.out mid new ending) → AuditEnds words old new ending
-  audit_guilty new bytes ending answer writes =
+      → ((e : Evidence) → evidence_of bytes ≡ Ok e → WritesEvidence e bytes words.out mid new ending) → mid.write_faults ≡ old.write_faults → new.read_faults ≡ mid.read_faults
+      → AuditEnds words old new ending
+  audit_guilty new bytes ending answer writes unwritten unread =
       let e = answer.0 in
       let spells = answer.2 in
       let wrote : WritesEvidence e bytes words.out mid new ending = writes e spells.reads in
@@ -109,10 +111,11 @@ module _ (words : AuditWords) (old mid : Files) (s : code.Sources) (read : Reads
           is_short = subst (λ (l : List ℕ). length l ≤ 536870912) spells.spelled (let short = spells.is_short in let limit = sources_within words read.files (sources_view words.epoch s) read.gives in omega (arith, short, limit));
           written = elim wrote.written [
             | inl w ↦ inl (w.0, λ t. w.1 (read.follows.tells ∙ t) ∙ ap (λ (b : List ℕ). Some b) spells.spelled)
-            | inr f ↦ inr (f.0, rose_before old.faults mid.faults new.faults read.follows.later f.1)
+            | inr f ↦ inr (f.0, omega (arith, unwritten, f.1))
           ];
         }));
         others = λ n ne. wrote.others n ne ∙ read.follows.kept n;
+        reads_first = inl (unread ∙ read.failed);
       }
 
 pub ruleset audit_ends = (audit_unread, audit_clean, audit_refused, audit_guilty)

@@ -30,7 +30,8 @@ use Rattle.cp_tool.specs.ClientInputs.{three_view, ReadsThree, JudgesPut, Writes
 use Rattle.cp_tool.specs.ClientRuns.{Three, Input, three_of, key_in, get_request, get_asked, GetEnds, AskGetEnds, asked_or_refused, accepted_or_refused, acceptance_of, accept_inputs, AcceptanceEnds, AcceptEnds}
 use Rattle.cp_tool.specs.Folders.{Files, input_of, Stops, KeepsAll, KeepsOthers}
 use Rattle.cp_tool.specs.Inputs.{ReadsInput}
-use Rattle.cp_tool.specs.PutRuns.{PutParts, put_parts, put_request, put_inputs, LeafEnds, PutEnds, AskPutEnds, DrawsLeaf}
+use Rattle.cp_tool.specs.PutRuns.{PutParts, put_parts, put_request, put_inputs, LeafEnds, PutEnds, AskPutEnds, DrawsLeaf, TakesFirst}
+use Rattle.cp_tool.proofs.InputLemmas.{stops_first}
 use Rattle.cp_tool.specs.Runs.{secret_in}
 use Rattle.cp_endings.specs.View.{ending_view}
 use Rattle.cp_endings.specs.declared.ending.Ending.{Ending}
@@ -38,7 +39,7 @@ use Rattle.cp_tool.specs.declared.three_inputs.ThreeFiles.{ThreeFiles}
 
 -- ---- three files
 
-pub three_first : (a b c : Input) (old new : Files) (ending : Ending) → ReadsInput old.tells (old.file a.name) a.name a.limit old.faults new.faults (Err ending) → ReadsThree a b c old new (Err ending)
+pub three_first : (a b c : Input) (old new : Files) (ending : Ending) → ReadsInput old.tells (old.file a.name) a.name a.limit old.read_faults new.read_faults (Err ending) → ReadsThree a b c old new (Err ending)
 three_first a b c old new ending read = record {
   first_file = read.content;
   second_file = old.file b.name;
@@ -48,15 +49,16 @@ three_first a b c old new ending read = record {
   third_is = λ t. refl;
   gives = gives read.gives;
   later = read.later;
+  failed = read.failed;
 }
   where
-    gives : (input_of read.content a.name a.limit ≡ Err (ending_view ending)) ⊎ Stops old.faults new.faults (ending_view ending)
-        → (three_of read.content a (old.file b.name) b (old.file c.name) c ≡ Err (ending_view ending)) ⊎ Stops old.faults new.faults (ending_view ending)
+    gives : (input_of read.content a.name a.limit ≡ Err (ending_view ending)) ⊎ Stops old.read_faults new.read_faults (ending_view ending)
+        → (three_of read.content a (old.file b.name) b (old.file c.name) c ≡ Err (ending_view ending)) ⊎ Stops old.read_faults new.read_faults (ending_view ending)
     gives (inl refused) = inl (rw refused refl)
     gives (inr stops) = inr stops
 
-pub three_second : (a b c : Input) (old new : Files) (after : ℕ) (x : Vec ℕ) (ending : Ending) → ReadsInput old.tells (old.file a.name) a.name a.limit old.faults after (Ok x)
-    → ReadsInput old.tells (old.file b.name) b.name b.limit old.faults new.faults (Err ending) → ReadsThree a b c old new (Err ending)
+pub three_second : (a b c : Input) (old new : Files) (after : ℕ) (x : Vec ℕ) (ending : Ending) → ReadsInput old.tells (old.file a.name) a.name a.limit old.read_faults after (Ok x)
+    → ReadsInput old.tells (old.file b.name) b.name b.limit old.read_faults new.read_faults (Err ending) → ReadsThree a b c old new (Err ending)
 three_second a b c old new after x ending first second = record {
   first_file = first.content;
   second_file = second.content;
@@ -66,16 +68,17 @@ three_second a b c old new after x ending first second = record {
   third_is = λ t. refl;
   gives = gives second.gives;
   later = second.later;
+  failed = second.failed;
 }
   where
-    gives : (input_of second.content b.name b.limit ≡ Err (ending_view ending)) ⊎ Stops old.faults new.faults (ending_view ending)
-        → (three_of first.content a second.content b (old.file c.name) c ≡ Err (ending_view ending)) ⊎ Stops old.faults new.faults (ending_view ending)
+    gives : (input_of second.content b.name b.limit ≡ Err (ending_view ending)) ⊎ Stops old.read_faults new.read_faults (ending_view ending)
+        → (three_of first.content a second.content b (old.file c.name) c ≡ Err (ending_view ending)) ⊎ Stops old.read_faults new.read_faults (ending_view ending)
     gives (inl refused) = inl (rw (first.gives, refused) refl)
     gives (inr stops) = inr stops
 
-pub three_third : (a b c : Input) (old new : Files) (after later : ℕ) (x y : Vec ℕ) (ending : Ending) → ReadsInput old.tells (old.file a.name) a.name a.limit old.faults after (Ok x)
-    → ReadsInput old.tells (old.file b.name) b.name b.limit old.faults later (Ok y)
-    → ReadsInput old.tells (old.file c.name) c.name c.limit old.faults new.faults (Err ending) → ReadsThree a b c old new (Err ending)
+pub three_third : (a b c : Input) (old new : Files) (after later : ℕ) (x y : Vec ℕ) (ending : Ending) → ReadsInput old.tells (old.file a.name) a.name a.limit old.read_faults after (Ok x)
+    → ReadsInput old.tells (old.file b.name) b.name b.limit old.read_faults later (Ok y)
+    → ReadsInput old.tells (old.file c.name) c.name c.limit old.read_faults new.read_faults (Err ending) → ReadsThree a b c old new (Err ending)
 three_third a b c old new after later x y ending first second third = record {
   first_file = first.content;
   second_file = second.content;
@@ -85,16 +88,17 @@ three_third a b c old new after later x y ending first second third = record {
   third_is = third.told;
   gives = gives third.gives;
   later = third.later;
+  failed = third.failed;
 }
   where
-    gives : (input_of third.content c.name c.limit ≡ Err (ending_view ending)) ⊎ Stops old.faults new.faults (ending_view ending)
-        → (three_of first.content a second.content b third.content c ≡ Err (ending_view ending)) ⊎ Stops old.faults new.faults (ending_view ending)
+    gives : (input_of third.content c.name c.limit ≡ Err (ending_view ending)) ⊎ Stops old.read_faults new.read_faults (ending_view ending)
+        → (three_of first.content a second.content b third.content c ≡ Err (ending_view ending)) ⊎ Stops old.read_faults new.read_faults (ending_view ending)
     gives (inl refused) = inl (rw (first.gives, second.gives, refused) refl)
     gives (inr stops) = inr stops
 
-pub three_all : (a b c : Input) (old new : Files) (after later : ℕ) (files : ThreeFiles) → ReadsInput old.tells (old.file a.name) a.name a.limit old.faults after (Ok files.first)
-    → ReadsInput old.tells (old.file b.name) b.name b.limit old.faults later (Ok files.second)
-    → ReadsInput old.tells (old.file c.name) c.name c.limit old.faults new.faults (Ok files.third) → ReadsThree a b c old new (Ok files)
+pub three_all : (a b c : Input) (old new : Files) (after later : ℕ) (files : ThreeFiles) → ReadsInput old.tells (old.file a.name) a.name a.limit old.read_faults after (Ok files.first)
+    → ReadsInput old.tells (old.file b.name) b.name b.limit old.read_faults later (Ok files.second)
+    → ReadsInput old.tells (old.file c.name) c.name c.limit old.read_faults new.read_faults (Ok files.third) → ReadsThree a b c old new (Ok files)
 three_all a b c old new after later files first second third = record {
   first_file = first.content;
   second_file = second.content;
@@ -104,6 +108,7 @@ three_all a b c old new after later files first second third = record {
   third_is = third.told;
   gives = rw (first.gives, second.gives, third.gives) refl;
   later = third.later;
+  failed = third.failed;
 }
 
 -- ---- ask-put
@@ -128,11 +133,11 @@ pub parts_are : (words : PutWords) (files : Three) (seed : List ℕ) (secret : S
 parts_are words files seed secret request store content long reads seed_is secret_is store_is content_is request_is =
     rw (secret_is, seed_is, request_is, store_is, content_is) (parts_judged words files long reads)
 
-leaf_later : (parts : PutParts) (leaf : ℕ) (out : List ℕ) (old mid new : Files) (ending : Outcome) → KeepsAll old mid → mid.tells ≡ old.tells → old.faults ≤ mid.faults
+leaf_later : (parts : PutParts) (leaf : ℕ) (out : List ℕ) (old mid new : Files) (ending : Outcome) → KeepsAll old mid → mid.tells ≡ old.tells → mid.write_faults ≡ old.write_faults
     → LeafEnds parts (Ok leaf) out mid new ending → LeafEnds parts (Ok leaf) out old new ending
-leaf_later parts leaf out old mid new ending kept tells later (inl written) = inl (written.0, λ told. written.1 (tells ∙ told))
-leaf_later parts leaf out old mid new ending kept tells later (inr (inl unwritten)) = inr (inl (unwritten.0, omega (arith, later, unwritten.1)))
-leaf_later parts leaf out old mid new ending kept tells later (inr (inr unmade)) = inr (inr (unmade.0, λ n. unmade.1 n ∙ kept n))
+leaf_later parts leaf out old mid new ending kept tells unwritten_yet (inl written) = inl (written.0, λ told. written.1 (tells ∙ told))
+leaf_later parts leaf out old mid new ending kept tells unwritten_yet (inr (inl failed)) = inr (inl (failed.0, omega (arith, unwritten_yet, failed.1)))
+leaf_later parts leaf out old mid new ending kept tells unwritten_yet (inr (inr unmade)) = inr (inr (unmade.0, λ n. unmade.1 n ∙ kept n))
 
 module _ {K : Type 0} (g : disk.Ghosts K) (words : PutWords) (old : Files) where
   abbrev ReadsPut : Files → Result ThreeFiles Ending → Type 0
@@ -149,11 +154,16 @@ module _ {K : Type 0} (g : disk.Ghosts K) (words : PutWords) (old : Files) where
     content_is = reads.third_is;
     ends = ends reads.gives;
     others = λ n other. kept n;
+    reads_first = first reads.failed;
   }
     where
-      ends : (put_inputs words reads.first_file reads.second_file reads.third_file ≡ Err (ending_view ending)) ⊎ Stops old.faults new.faults (ending_view ending)
+      first : (new.read_faults ≡ old.read_faults) ⊎ (ending_view ending ≡ fault) → TakesFirst g old new d d (ending_view ending)
+      first (inl stays) = inl stays
+      first (inr is) = inr (is, kept, refl)
+
+      ends : (put_inputs words reads.first_file reads.second_file reads.third_file ≡ Err (ending_view ending)) ⊎ Stops old.read_faults new.read_faults (ending_view ending)
           → PutEnds g (put_inputs words reads.first_file reads.second_file reads.third_file >>= put_parts words) words.out old new d d (ending_view ending)
-          ⊎ (Stops old.faults new.faults (ending_view ending) × KeepsAll old new × (d ≡ d))
+          ⊎ (Stops old.read_faults new.read_faults (ending_view ending) × KeepsAll old new × (d ≡ d))
       ends (inl refused) = inl (rw refused (refl, kept, refl))
       ends (inr stops) = inr (stops, kept, refl)
 
@@ -169,6 +179,7 @@ module _ {K : Type 0} (g : disk.Ghosts K) (words : PutWords) (old : Files) where
     content_is = reads.third_is;
     ends = inl (rw (reads.gives, judged words) (refl, kept, refl));
     others = λ n other. kept n;
+    reads_first = inl reads.failed;
   }
 
   -- memory was wanted for the key
@@ -182,6 +193,7 @@ module _ {K : Type 0} (g : disk.Ghosts K) (words : PutWords) (old : Files) where
     content_is = reads.third_is;
     ends = inr (inr refl, kept, refl);
     others = λ n other. kept n;
+    reads_first = inl reads.failed;
   }
 
   -- the vault gave no leaf, or it did
@@ -200,51 +212,53 @@ module _ {K : Type 0} (g : disk.Ghosts K) (words : PutWords) (old : Files) where
       content_is = reads.third_is;
       ends = inl (rw (reads.gives, is) (record { drawn = Err (ending_view ending); draws = draws_of (Err (ending_view ending)) draws; ends = (refl, kept) }));
       others = λ n other. kept n;
+      reads_first = inl reads.failed;
     }
 
-    pub put_drawn : (new : Files) (leaf : ℕ) (ending : Outcome) → DrawsLeaf g id leaves before after (Ok leaf) → KeepsAll old mid → mid.tells ≡ old.tells
-        → LeafEnds parts (Ok leaf) words.out mid new ending → KeepsOthers words.out mid new → AskPutEnds g words old new before after ending
-    put_drawn new leaf ending draws kept tells made others = record {
+    pub put_drawn : (new : Files) (leaf : ℕ) (ending : Outcome) → DrawsLeaf g id leaves before after (Ok leaf) → KeepsAll old mid → mid.tells ≡ old.tells → mid.write_faults ≡ old.write_faults
+        → LeafEnds parts (Ok leaf) words.out mid new ending → KeepsOthers words.out mid new → new.read_faults ≡ mid.read_faults → AskPutEnds g words old new before after ending
+    put_drawn new leaf ending draws kept tells unwritten_yet made others unread = record {
       seed_file = reads.first_file;
       store_file = reads.second_file;
       content_file = reads.third_file;
       seed_is = reads.first_is;
       store_is = reads.second_is;
       content_is = reads.third_is;
-      ends = inl (rw (reads.gives, is) (record { drawn = Ok leaf; draws = draws_of (Ok leaf) draws; ends = leaf_later parts leaf words.out old mid new ending kept tells reads.later made }));
+      ends = inl (rw (reads.gives, is) (record { drawn = Ok leaf; draws = draws_of (Ok leaf) draws; ends = leaf_later parts leaf words.out old mid new ending kept tells unwritten_yet made }));
       others = λ n other. others n other ∙ kept n;
+      reads_first = inl (unread ∙ reads.failed);
     }
 
 -- ---- ask-get
 
 -- the key's file was refused
-pub get_unread : (words : GetWords) (old new : Files) (ending : Ending) → ReadsInput old.tells (old.file words.store) words.store 56 old.faults new.faults (Err ending) → KeepsAll old new
+pub get_unread : (words : GetWords) (old new : Files) (ending : Ending) → ReadsInput old.tells (old.file words.store) words.store 56 old.read_faults new.read_faults (Err ending) → KeepsAll old new
     → AskGetEnds words old new (ending_view ending)
-get_unread words old new ending read kept = record { store_file = read.content; store_is = read.told; ends = ends read.gives; others = λ n other. kept n }
+get_unread words old new ending read kept = record { store_file = read.content; store_is = read.told; ends = ends read.gives; others = λ n other. kept n; reads_first = stops_first old new (ending_view ending) read.failed kept }
   where
-    ends : (input_of read.content words.store 56 ≡ Err (ending_view ending)) ⊎ Stops old.faults new.faults (ending_view ending)
-        → GetEnds (get_asked words read.content) words.out old new (ending_view ending) ⊎ (Stops old.faults new.faults (ending_view ending) × KeepsAll old new)
+    ends : (input_of read.content words.store 56 ≡ Err (ending_view ending)) ⊎ Stops old.read_faults new.read_faults (ending_view ending)
+        → GetEnds (get_asked words read.content) words.out old new (ending_view ending) ⊎ (Stops old.read_faults new.read_faults (ending_view ending) × KeepsAll old new)
     ends (inl refused) = inl (rw refused (refl, kept))
     ends (inr stops) = inr (stops, kept)
 
 -- the key does not read
-pub get_refused : (words : GetWords) (old new : Files) (store : Vec ℕ) → ReadsInput old.tells (old.file words.store) words.store 56 old.faults new.faults (Ok store) → key_reads store.items ≡ false
+pub get_refused : (words : GetWords) (old new : Files) (store : Vec ℕ) → ReadsInput old.tells (old.file words.store) words.store 56 old.read_faults new.read_faults (Ok store) → key_reads store.items ≡ false
     → KeepsAll old new → AskGetEnds words old new bad_key
 get_refused words old new store read bad kept =
-    record { store_file = read.content; store_is = read.told; ends = inl (rw (read.gives, bad) (refl, kept)); others = λ n other. kept n }
+    record { store_file = read.content; store_is = read.told; ends = inl (rw (read.gives, bad) (refl, kept)); others = λ n other. kept n; reads_first = inl read.failed }
 
 -- the request was written, or its write failed
 pub get_written : (words : GetWords) (old mid new : Files) (store : Vec ℕ) (text : List ℕ) (ending : Outcome)
-    → ReadsInput old.tells (old.file words.store) words.store 56 old.faults mid.faults (Ok store) → IsTrue (key_reads store.items) → text ≡ get_request_text (get_request words.call store.items)
-    → KeepsAll old mid → mid.tells ≡ old.tells
-    → ((ending ≡ asked_get) × (IsTrue mid.tells → new.file words.out ≡ Some text)) ⊎ ((ending ≡ fault) × Rose mid.faults new.faults) → KeepsOthers words.out mid new → AskGetEnds words old new ending
-get_written words old mid new store text ending read reads is kept tells wrote others =
-    record { store_file = read.content; store_is = read.told; ends = inl (rw (read.gives, reads) (ends wrote)); others = λ n other. others n other ∙ kept n }
+    → ReadsInput old.tells (old.file words.store) words.store 56 old.read_faults mid.read_faults (Ok store) → IsTrue (key_reads store.items) → text ≡ get_request_text (get_request words.call store.items)
+    → KeepsAll old mid → mid.tells ≡ old.tells → mid.write_faults ≡ old.write_faults → new.read_faults ≡ mid.read_faults
+    → ((ending ≡ asked_get) × (IsTrue mid.tells → new.file words.out ≡ Some text)) ⊎ ((ending ≡ fault) × Rose mid.write_faults new.write_faults) → KeepsOthers words.out mid new → AskGetEnds words old new ending
+get_written words old mid new store text ending read reads is kept tells unwritten_yet unread wrote others =
+    record { store_file = read.content; store_is = read.told; ends = inl (rw (read.gives, reads) (ends wrote)); others = λ n other. others n other ∙ kept n; reads_first = inl (unread ∙ read.failed) }
   where
-    ends : ((ending ≡ asked_get) × (IsTrue mid.tells → new.file words.out ≡ Some text)) ⊎ ((ending ≡ fault) × Rose mid.faults new.faults)
+    ends : ((ending ≡ asked_get) × (IsTrue mid.tells → new.file words.out ≡ Some text)) ⊎ ((ending ≡ fault) × Rose mid.write_faults new.write_faults)
         → GetEnds (Ok (get_request_text (get_request words.call store.items))) words.out old new ending
     ends (inl written) = inl (written.0, λ told. written.1 (tells ∙ told) ∙ ap (λ (l : List ℕ). Some l) is)
-    ends (inr unwritten) = inr (unwritten.0, omega (arith, read.later, unwritten.1))
+    ends (inr failed) = inr (failed.0, omega (arith, unwritten_yet, failed.1))
 
 -- ---- accept
 
@@ -309,11 +323,12 @@ module _ (words : AcceptWords) (old : Files) where
     reply_is = reads.third_is;
     ends = ends reads.gives;
     others = λ n out content. kept n;
+    reads_first = stops_first old new (ending_view ending) reads.failed kept;
   }
     where
-      ends : (accept_inputs words reads.first_file reads.second_file reads.third_file ≡ Err (ending_view ending)) ⊎ Stops old.faults new.faults (ending_view ending)
+      ends : (accept_inputs words reads.first_file reads.second_file reads.third_file ≡ Err (ending_view ending)) ⊎ Stops old.read_faults new.read_faults (ending_view ending)
           → AcceptanceEnds words (accept_inputs words reads.first_file reads.second_file reads.third_file >>= acceptance_of) old new (ending_view ending)
-          ⊎ (Stops old.faults new.faults (ending_view ending) × KeepsAll old new)
+          ⊎ (Stops old.read_faults new.read_faults (ending_view ending) × KeepsAll old new)
       ends (inl refused) = inl (rw refused (refl, kept))
       ends (inr stops) = inr (stops, kept)
 
@@ -329,13 +344,15 @@ module _ (words : AcceptWords) (old : Files) where
     reply_is = reads.third_is;
     ends = inl (rw (reads.gives, refused) (refl, kept));
     others = λ n out content. kept n;
+    reads_first = inl reads.failed;
   }
 
   -- what was accepted was written, or a write failed
   pub accept_written : (mid new : Files) (files : ThreeFiles) (x : Accepted) (envelope : List ℕ) (ending : Outcome) → ReadsAccept mid (Ok files) → acceptance_of (three_view files) ≡ Ok x
-      → IsBytes files.third.items → envelope ≡ take (length files.third.items - length x.content) files.third.items → KeepsAll old mid → mid.tells ≡ old.tells
-      → WritesEnds words envelope x mid new ending → ((name : List ℕ) → name ≢ words.out → name ≢ words.content → new.file name ≡ mid.file name) → AcceptEnds words old new ending
-  accept_written mid new files x envelope ending reads is fits front kept tells wrote others = record {
+      → IsBytes files.third.items → envelope ≡ take (length files.third.items - length x.content) files.third.items → KeepsAll old mid → mid.tells ≡ old.tells → mid.write_faults ≡ old.write_faults
+      → WritesEnds words envelope x mid new ending → ((name : List ℕ) → name ≢ words.out → name ≢ words.content → new.file name ≡ mid.file name) → new.read_faults ≡ mid.read_faults
+      → AcceptEnds words old new ending
+  accept_written mid new files x envelope ending reads is fits front kept tells unwritten_yet wrote others unread = record {
     store_file = reads.first_file;
     request_file = reads.second_file;
     reply_file = reads.third_file;
@@ -344,6 +361,7 @@ module _ (words : AcceptWords) (old : Files) where
     reply_is = reads.third_is;
     ends = inl (rw (reads.gives, is) (ends wrote));
     others = λ n out content. others n out content ∙ kept n;
+    reads_first = inl (unread ∙ reads.failed);
   }
     where
       spelled : envelope ≡ envelope_text x.envelope
@@ -357,7 +375,7 @@ module _ (words : AcceptWords) (old : Files) where
           content = (written.1 (tells ∙ told)).content_is;
         },
       )
-      ends (inr unwritten) = inr (unwritten.0, omega (arith, reads.later, unwritten.1), λ apart. stops (unwritten.2 apart))
+      ends (inr failed) = inr (failed.0, omega (arith, unwritten_yet, failed.1), λ apart. stops (failed.2 apart))
         where
           stops : (new.file words.content ≡ mid.file words.content) ⊎ (IsTrue mid.tells → new.file words.out ≡ Some envelope)
               → (new.file words.content ≡ old.file words.content) ⊎ (IsTrue old.tells → new.file words.out ≡ Some (envelope_text x.envelope))

@@ -66,7 +66,7 @@ get_ends (Err refusal) out old new ending well ends = same_not2 _ _ ends.0 well
 pub ask_get_not2 : (words : GetWords) (old new : Files) (ending : Outcome) → AskGetEnds words old new ending → ending.status ≡ 2 → ⊥
 ask_get_not2 words old new ending ends = go ends.ends
   where
-    go : GetEnds (get_asked words ends.store_file) words.out old new ending ⊎ (Stops old.faults new.faults ending × KeepsAll old new) → Not2 ending
+    go : GetEnds (get_asked words ends.store_file) words.out old new ending ⊎ (Stops old.read_faults new.read_faults ending × KeepsAll old new) → Not2 ending
     go (inl made) = get_ends (get_asked words ends.store_file) words.out old new ending (get_well words ends.store_file) made
     go (inr stops) = stops_not2 _ _ ending stops.0
 
@@ -100,7 +100,7 @@ acceptance_ends words (Err refusal) old new ending well ends = same_not2 _ _ end
 pub accept_not2 : (words : AcceptWords) (old new : Files) (ending : Outcome) → AcceptEnds words old new ending → ending.status ≡ 2 → ⊥
 accept_not2 words old new ending ends = go ends.ends
   where
-    go : AcceptanceEnds words (accept_inputs words ends.store_file ends.request_file ends.reply_file >>= acceptance_of) old new ending ⊎ (Stops old.faults new.faults ending × KeepsAll old new) → Not2 ending
+    go : AcceptanceEnds words (accept_inputs words ends.store_file ends.request_file ends.reply_file >>= acceptance_of) old new ending ⊎ (Stops old.read_faults new.read_faults ending × KeepsAll old new) → Not2 ending
     go (inl made) = acceptance_ends words _ old new ending (step (accept_inputs words ends.store_file ends.request_file ends.reply_file) acceptance_of (three_well ends.store_file _ ends.request_file _ ends.reply_file _) acceptance_well) made
     go (inr stops) = stops_not2 _ _ ending stops.0
 
@@ -122,7 +122,7 @@ parts_well words files = go (nat_lt (length files.first) 48) refl
 leaf_ends : (parts : PutParts) (drawn : Result ℕ Outcome) (out : List ℕ) (old new : Files) (ending : Outcome) → IfErr drawn IsVaultRefusal → LeafEnds parts drawn out old new ending → Not2 ending
 leaf_ends parts (Ok leaf) out old new ending why (inl written) = same_not2 _ _ written.0 (λ e. omega (arith, e))
 leaf_ends parts (Ok leaf) out old new ending why (inr (inl unwritten)) = stops_not2 _ _ ending (inl unwritten)
-leaf_ends parts (Ok leaf) out old new ending why (inr (inr unmade)) = stops_not2 old.faults old.faults ending (inr unmade.0)
+leaf_ends parts (Ok leaf) out old new ending why (inr (inr unmade)) = stops_not2 old.read_faults old.read_faults ending (inr unmade.0)
 leaf_ends parts (Err refusal) out old new ending why ends = same_not2 _ _ ends.0 (vault_not2 refusal why)
 
 module _ {K : Type 0} (g : disk.Ghosts K) where
@@ -133,7 +133,7 @@ module _ {K : Type 0} (g : disk.Ghosts K) where
   pub ask_put_not2 : (words : PutWords) (old new : Files) (before after : K) (ending : Outcome) → AskPutEnds g words old new before after ending → ending.status ≡ 2 → ⊥
   ask_put_not2 words old new before after ending ends = go ends.ends
     where
-      go : PutEnds g (put_inputs words ends.seed_file ends.store_file ends.content_file >>= put_parts words) words.out old new before after ending ⊎ (Stops old.faults new.faults ending × KeepsAll old new × (after ≡ before)) → Not2 ending
+      go : PutEnds g (put_inputs words ends.seed_file ends.store_file ends.content_file >>= put_parts words) words.out old new before after ending ⊎ (Stops old.read_faults new.read_faults ending × KeepsAll old new × (after ≡ before)) → Not2 ending
       go (inl made) = put_ends _ words.out old new before after ending
           (step (put_inputs words ends.seed_file ends.store_file ends.content_file) (put_parts words) (three_well ends.seed_file _ ends.store_file _ ends.content_file _) (parts_well words)) made
       go (inr stops) = stops_not2 _ _ ending stops.0

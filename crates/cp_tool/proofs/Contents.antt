@@ -5,12 +5,14 @@ use Rattle.std.specs.Global.{Vec}
 use Rattle.std.proofs.lemmas.Bool.{lt-ltb, le-ltb}
 use Rattle.std.proofs.lemmas.List.{length-replicate}
 use Rattle.cp_outside.specs.Causes.{Rose}
-use Rattle.cp_outside.specs.WholeFiles.{ReadsWhole, OnFailed}
+use Rattle.cp_outside.specs.WholeFiles.{ReadsWhole, OnFailed, UnlessFailed}
 use Rattle.cp_outside.specs.declared.whole_files.ReadWhole.{ReadWhole}
 use Rattle.cp_outside.specs.declared.whole_files.ReadWhole.TheVariants as whole
-use Rattle.cp_endings.specs.Endings.{too_long}
+use Rattle.cp_endings.specs.Endings.{missing, too_long}
+use Rattle.cp_endings.specs.View.{ending_view}
 use Rattle.cp_tool.specs.Runs.{input_of}
 use Rattle.cp_tool.specs.Inputs.{ReadsInput}
+use Rattle.cp_endings.specs.declared.ending.Ending.{Ending}
 use Rattle.cp_endings.specs.declared.ending.Ending.TheVariants.{TooLong, Fault, NoMemory}
 
 -- a content of more than so many bytes, which is the file where the folder tells its files
@@ -30,26 +32,40 @@ input_beyond None name limit long = absurd long
 input_beyond (Some bytes) name limit long = rw (lt-ltb limit (length bytes) long) refl
 
 pub read_ok : (tells : Bool) (file : Option (List ℕ)) (name : List ℕ) (limit before now : ℕ) (bytes : Vec ℕ)
-    → (IsTrue tells → (file ≡ Some bytes.items) × (length bytes.items ≤ limit)) → length bytes.items ≤ limit → before ≤ now
+    → (IsTrue tells → (file ≡ Some bytes.items) × (length bytes.items ≤ limit)) → length bytes.items ≤ limit → now ≡ before
     → ReadsInput tells file name limit before now (Ok bytes)
-read_ok tells file name limit before now bytes told within later =
-    record { content = Some bytes.items; told = λ t. sym (told t).0; gives = input_within bytes.items name limit within; later = later }
-
-pub read_too_long : (tells : Bool) (file : Option (List ℕ)) (name : List ℕ) (limit before now : ℕ) (refusal : ReadWhole) (named : ℕ) → refusal ≡ whole.TooLong named
-    → (IsTrue tells → ReadsWhole file limit (Err refusal)) → before ≤ now → ReadsInput tells file name limit before now (Err (TooLong limit))
-read_too_long tells file name limit before now refusal named is told later =
-    let found = long_content tells file limit (λ t. subst (λ r. ReadsWhole file limit (Err r)) is (told t)) in
-    record { content = found.0; told = found.1; gives = inl (input_beyond found.0 name limit found.2); later = later }
+read_ok tells file name limit before now bytes told within same =
+    record { content = Some bytes.items; told = λ t. sym (told t).0; gives = input_within bytes.items name limit within; later = omega (arith, same); failed = same }
 
 abbrev Refused : ReadWhole → Result (Vec ℕ) ReadWhole
 Refused refusal = Err refusal
 
+pub read_missing : (tells : Bool) (file : Option (List ℕ)) (name : List ℕ) (limit before now : ℕ) (refusal : ReadWhole) (ending : Ending) → refusal ≡ whole.Missing → ending_view ending ≡ missing name
+    → (IsTrue tells → ReadsWhole file limit (Err refusal)) → UnlessFailed (Refused refusal) (now ≡ before) → ReadsInput tells file name limit before now (Err ending)
+read_missing tells file name limit before now refusal ending is said told stays =
+    let same : now ≡ before = subst (λ r. UnlessFailed (Refused r) (now ≡ before)) is stays in
+    record {
+      content = None;
+      told = λ t. sym (subst (λ r. ReadsWhole file limit (Err r)) is (told t));
+      gives = inl (rw said refl);
+      later = omega (arith, same);
+      failed = inl same;
+    }
+
+pub read_too_long : (tells : Bool) (file : Option (List ℕ)) (name : List ℕ) (limit before now : ℕ) (refusal : ReadWhole) (named : ℕ) → refusal ≡ whole.TooLong named
+    → (IsTrue tells → ReadsWhole file limit (Err refusal)) → UnlessFailed (Refused refusal) (now ≡ before) → ReadsInput tells file name limit before now (Err (TooLong limit))
+read_too_long tells file name limit before now refusal named is told stays =
+    let same : now ≡ before = subst (λ r. UnlessFailed (Refused r) (now ≡ before)) is stays in
+    let found = long_content tells file limit (λ t. subst (λ r. ReadsWhole file limit (Err r)) is (told t)) in
+    record { content = found.0; told = found.1; gives = inl (input_beyond found.0 name limit found.2); later = omega (arith, same); failed = inl same }
+
 pub read_failed : (tells : Bool) (file : Option (List ℕ)) (name : List ℕ) (limit before now : ℕ) (refusal : ReadWhole) → refusal ≡ whole.Failed
     → OnFailed (Refused refusal) (Rose before now) → before ≤ now → ReadsInput tells file name limit before now (Err Fault)
 read_failed tells file name limit before now refusal is rose later =
-    record { content = file; told = λ t. refl; gives = inr (inl (refl, subst (λ r. OnFailed (Refused r) (Rose before now)) is rose)); later = later }
+    record { content = file; told = λ t. refl; gives = inr (inl (refl, subst (λ r. OnFailed (Refused r) (Rose before now)) is rose)); later = later; failed = inr refl }
 
-pub read_unkept : (tells : Bool) (file : Option (List ℕ)) (name : List ℕ) (limit before now : ℕ) → before ≤ now
+pub read_unkept : (tells : Bool) (file : Option (List ℕ)) (name : List ℕ) (limit before now : ℕ) (refusal : ReadWhole) → refusal ≡ whole.OutOfMemory → UnlessFailed (Refused refusal) (now ≡ before)
     → ReadsInput tells file name limit before now (Err NoMemory)
-read_unkept tells file name limit before now later =
-    record { content = file; told = λ t. refl; gives = inr (inr refl); later = later }
+read_unkept tells file name limit before now refusal is stays =
+    let same : now ≡ before = subst (λ r. UnlessFailed (Refused r) (now ≡ before)) is stays in
+    record { content = file; told = λ t. refl; gives = inr (inr refl); later = omega (arith, same); failed = inl same }

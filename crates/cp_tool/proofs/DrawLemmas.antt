@@ -7,10 +7,11 @@ use Rattle.cp_outside.specs.Disks.{LeavesOnly}
 use Rattle.cp_outside.specs.declared.disk.Disk as disk
 use Rattle.key_vault.proofs.Moments.{leaves_less}
 use Rattle.key_vault.proofs.SlotLemmas.{long_of_number, opening_number, opening_blank}
-use Rattle.key_vault.specs.Calls.{Loads, Reserves, IsSettled}
+use Rattle.key_vault.specs.Calls.{Formats, Loads, Reserves}
 use Rattle.key_vault.specs.Ranges.{Range}
-use Rattle.key_vault.specs.Slots.{opening, advanced, HasEither}
+use Rattle.key_vault.specs.Slots.{opening, advanced, HasEither, HasNone}
 use Rattle.key_vault.specs.declared.faults.LoadFault.{LoadFault}
+use Rattle.key_vault.specs.declared.faults.LoadFault.TheVariants as load
 use Rattle.key_vault.specs.declared.faults.VaultFault.TheVariants as vault
 use Rattle.cp_endings.specs.ClientEndings.{over}
 use Rattle.cp_tool.specs.ClientInputs.{OpensVault}
@@ -32,6 +33,12 @@ same_ending a b e = cc
 
 over_no_fault : (r l : ℕ) → ends_with (over r l) ≡ ends_with fault → ⊥
 over_no_fault r l e = omega (arith, ap (λ o. o.status) (same_ending (over r l) fault e))
+
+abbrev gave_no : {T E : Type 0} → E → Result T E
+gave_no e = Err e
+
+same_number : (a b : ℕ) → number_is a ≡ number_is b → a ≡ b
+same_number a b e = cc
 
 not_err : (n : ℕ) → IsErr (number_is n) → ⊥
 not_err n e = cc
@@ -86,6 +93,34 @@ module _ {K : Type 0} (g : disk.Ghosts K) (is_image : (d : K) → IsTrue (g.tell
       never_falls = loads.never_falls;
       failed = λ e. absurd (no_number number fault e);
     }
+
+    -- a blank vault that could not be made
+    pub open_unmade : {T E : Type 0} (n : ℕ) (d2 : K) (e : E) → Loads g id leaves d0 d1 (Err (load.Blank n)) → Formats g id d1 d2 (gave_no {T = T} e) → OpensVault g id leaves d0 d2 (Err fault)
+    open_unmade n d2 e loads formats = record {
+      number = λ told. inr refl;
+      made = λ told. tt;
+      seen = λ told. inr (short told, seen_left d1 d2 (HasNone id) (subst IsTrue (sym formats.tells) (later told)) (left told));
+      any_moment = λ told. both_leave g.moment g.images d0 d1 d2 (g.images d0 (g.moment d0)) (HasNone id) MayMake (λ image past. inl past) (λ image none. inr (short told, none)) (loads.any_moment told) (left told);
+      within = tt;
+      why = inl refl;
+      refused = λ told err. absurd (not_err 0 (rw (blank told) at err));
+      full = λ told k some is. absurd (omega (arith, some, same_number 0 k (sym (blank told) ∙ is)));
+      tells = formats.tells ∙ loads.tells;
+      never_falls = omega (arith, loads.never_falls, formats.cause.never_falls);
+      failed = λ e. omega (arith, loads.never_falls, formats.cause.failed);
+    }
+      where
+        later : IsTrue (g.tells d0) → IsTrue (g.tells d1)
+        later told = subst IsTrue (sym loads.tells) told
+
+        short : IsTrue (g.tells d0) → length (g.seen d0) < 129
+        short told = subst (λ (l : List ℕ). length l < 129) (loads.seen told) (loads.blank told)
+
+        left : IsTrue (g.tells d0) → LeavesOnly g.moment g.images d1 d2 (HasNone id)
+        left told = formats.any_moment (later told) (loads.durable told)
+
+        blank : IsTrue (g.tells d0) → number_before (opening id leaves (g.seen d0)) ≡ number_is 0
+        blank told = rw (← loads.answer_is told) refl
 
     -- what opening leaves, drawing may leave
     making_draws : 0 < leaves → (image : List ℕ) → IsMaking id (g.seen d0) image → IsDrawing id (g.seen d0) (next_leaf id leaves (g.seen d0)) image
@@ -175,15 +210,14 @@ module _ {K : Type 0} (g : disk.Ghosts K) (is_image : (d : K) → IsTrue (g.tell
           (opens.any_moment told) (left (told_open told))
 
       -- a leaf was reserved
-      pub draw_reserved : (leaf last gate : ℕ) (range : Range) → leaf ≡ number → Reserves g fid fleaves number 1 d1 d2 (Ok range) → last ≡ range.to
-          → (IsTrue (g.tells d1) → IsSettled g d2 fid last gate) → DrawsLeaf g id leaves d0 d2 (Ok leaf)
-      draw_reserved leaf last gate range leaf_is reserves last_is settled =
+      pub draw_reserved : (leaf : ℕ) (range : Range) → leaf ≡ number → Reserves g fid fleaves number 1 d1 d2 (Ok range) → DrawsLeaf g id leaves d0 d2 (Ok leaf)
+      draw_reserved leaf range leaf_is reserves =
           let below : number + 1 ≤ leaves = omega (arith, reserves.over, leaves_are) in
           let made : DrawsLeaf g id leaves d0 d2 (Ok number) = record {
             next = λ told. inl (next_is number below opens told);
             reserved = λ told. record {
               reserved = reserves.number_is (subst IsTrue (sym opens.tells) told);
-              key = (settled (subst IsTrue (sym opens.tells) told)).key ∙ id_is;
+              key = (seen_left d1 d2 (HasEither fid number (number + 1)) (subst IsTrue (sym reserves.tells) (told_open told)) (reserves.any_moment (told_open told))).0 ∙ id_is;
               durable = reserves.durable (subst IsTrue (sym opens.tells) told);
             };
             file = λ told. reserves.file (told_open told)
@@ -239,3 +273,5 @@ module _ {K : Type 0} (g : disk.Ghosts K) (is_image : (d : K) → IsTrue (g.tell
             never_falls = omega (arith, opens.never_falls, reserves.never_falls);
             failed = λ e. omega (arith, opens.never_falls, reserves.failed refl);
           }
+
+pub ruleset draws = (draw_unopened, draw_reserved, draw_over, draw_failed)

@@ -25,6 +25,7 @@ use Rattle.cp_tool.proofs.AuditRefusals.{audit_4}
 use Rattle.cp_tool.proofs.ReplayRefusals.{replay_4}
 use Rattle.cp_endings.specs.Endings.{Outcome, judged, short_seed, fault}
 use Rattle.cp_tool.specs.PutRuns.{PutParts, put_parts, put_inputs, LeafEnds, PutEnds, AskPutEnds, CommandEnds, IsVaultRefusal}
+use Rattle.cp_tool.specs.Folders.{FolderFailed}
 use Rattle.cp_tool.specs.Runs.{Files, input_of, ending_of, Stops, KeepsAll, judge_ending, verify_ending, verified, KeyEnds, key_made, secret_in, RunEnds}
 
 -- an ending for which no count has to have risen
@@ -114,7 +115,7 @@ written_4 : (done ending : Outcome) (before now : ℕ) {P : Type 0} → Not4 don
 written_4 done ending before now not (inl written) e = absurd (same_not4 ending done written.0 not e)
 written_4 done ending before now not (inr unwritten) e = unwritten.1
 
-key_4 : (made : Result (List ℕ) Outcome) (out : List ℕ) (old new : Files) (ending : Outcome) → RefusesWell made → KeyEnds made out old new ending → ending.status ≡ 4 → Rose old.faults new.faults
+key_4 : (made : Result (List ℕ) Outcome) (out : List ℕ) (old new : Files) (ending : Outcome) → RefusesWell made → KeyEnds made out old new ending → ending.status ≡ 4 → Rose old.write_faults new.write_faults
 key_4 (Ok key) out old new ending well ends e = written_4 _ ending _ _ (λ four. omega (arith, four)) ends e
 key_4 (Err refusal) out old new ending well ends e = absurd (same_not4 _ _ ends.0 well e)
 
@@ -123,7 +124,7 @@ key_4 (Err refusal) out old new ending well ends e = absurd (same_not4 _ _ ends.
 get_well : (words : GetWords) (file : Option (List ℕ)) → RefusesWell (get_asked words file)
 get_well words file = step (input_of file words.store 56) _ (input_well file words.store 56) (λ bytes. step (key_in bytes) _ (key_well bytes) (λ store. tt))
 
-get_4 : (made : Result (List ℕ) Outcome) (out : List ℕ) (old new : Files) (ending : Outcome) → RefusesWell made → GetEnds made out old new ending → ending.status ≡ 4 → Rose old.faults new.faults
+get_4 : (made : Result (List ℕ) Outcome) (out : List ℕ) (old new : Files) (ending : Outcome) → RefusesWell made → GetEnds made out old new ending → ending.status ≡ 4 → Rose old.write_faults new.write_faults
 get_4 (Ok bytes) out old new ending well ends e = written_4 _ ending _ _ (λ four. omega (arith, four)) ends e
 get_4 (Err refusal) out old new ending well ends e = absurd (same_not4 _ _ ends.0 well e)
 
@@ -149,26 +150,27 @@ unfolding acceptance_of
 acceptance_well files = step (key_in files.first) _ (key_well files.first)
     (λ key. step (asked_or_refused (asked_of files.second)) _ (asked_well (asked_of files.second)) (λ asked. answer_well (accept_of key asked files.third)))
 
-acceptance_4 : (words : AcceptWords) (r : Result Accepted Outcome) (old new : Files) (ending : Outcome) → RefusesWell r → AcceptanceEnds words r old new ending → ending.status ≡ 4 → Rose old.faults new.faults
+acceptance_4 : (words : AcceptWords) (r : Result Accepted Outcome) (old new : Files) (ending : Outcome) → RefusesWell r → AcceptanceEnds words r old new ending → ending.status ≡ 4 → Rose old.write_faults new.write_faults
 acceptance_4 words (Ok x) old new ending well (inl written) e = absurd (same_not4 _ _ written.0 (λ four. omega (arith, four)) e)
 acceptance_4 words (Ok x) old new ending well (inr unwritten) e = unwritten.1
 acceptance_4 words (Err refusal) old new ending well ends e = absurd (same_not4 _ _ ends.0 well e)
 
 -- ---- the commands that take files alone
 
-ends_4 : {P Q : Type 0} (before now : ℕ) (ending : Outcome) → (P → ending.status ≡ 4 → Rose before now) → P ⊎ (Stops before now ending × Q) → ending.status ≡ 4 → Rose before now
-ends_4 before now ending done (inl p) e = done p e
-ends_4 before now ending done (inr stops) e = stops_4 before now ending stops.0 e
+ends_4 : {P Q : Type 0} (old new : Files) (ending : Outcome) → (P → ending.status ≡ 4 → Rose old.write_faults new.write_faults) → P ⊎ (Stops old.read_faults new.read_faults ending × Q)
+    → ending.status ≡ 4 → FolderFailed old new
+ends_4 old new ending done (inl p) e = inr (done p e)
+ends_4 old new ending done (inr stops) e = inl (stops_4 _ _ ending stops.0 e)
 
-run_4 : (command : Option Command) (old new : Files) (ending : Outcome) → RunEnds command old new ending → ending.status ≡ 4 → Rose old.faults new.faults
+run_4 : (command : Option Command) (old new : Files) (ending : Outcome) → RunEnds command old new ending → ending.status ≡ 4 → FolderFailed old new
 run_4 None old new ending ends e = absurd (same_not4 _ _ ends.0 (λ four. omega (arith, four)) e)
-run_4 (Some (Judge k v)) old new ending ends e = known_4 _ ending _ _ (judge_not4 ends.key_file k ends.evidence_file v) ends.ends e
-run_4 (Some (Verify k t s)) old new ending ends e = known_4 _ ending _ _ (verify_not4 ends.key_file k ends.text_file t ends.signature_file s) ends.ends e
-run_4 (Some (Keygen s height ots out)) old new ending ends e = ends_4 _ _ ending (key_4 (key_made ends.seed_file s height ots) out old new ending (made_well ends.seed_file s height ots)) ends.ends e
+run_4 (Some (Judge k v)) old new ending ends e = inl (known_4 _ ending _ _ (judge_not4 ends.key_file k ends.evidence_file v) ends.ends e)
+run_4 (Some (Verify k t s)) old new ending ends e = inl (known_4 _ ending _ _ (verify_not4 ends.key_file k ends.text_file t ends.signature_file s) ends.ends e)
+run_4 (Some (Keygen s height ots out)) old new ending ends e = ends_4 old new ending (key_4 (key_made ends.seed_file s height ots) out old new ending (made_well ends.seed_file s height ots)) ends.ends e
 run_4 (Some (AskPut words)) old new ending ends e = absurd ends
-run_4 (Some (AskGet words)) old new ending ends e = ends_4 _ _ ending (get_4 (get_asked words ends.store_file) words.out old new ending (get_well words ends.store_file)) ends.ends e
+run_4 (Some (AskGet words)) old new ending ends e = ends_4 old new ending (get_4 (get_asked words ends.store_file) words.out old new ending (get_well words ends.store_file)) ends.ends e
 run_4 (Some (Accept words)) old new ending ends e =
-    ends_4 _ _ ending (acceptance_4 words (accept_inputs words ends.store_file ends.request_file ends.reply_file >>= acceptance_of) old new ending
+    ends_4 old new ending (acceptance_4 words (accept_inputs words ends.store_file ends.request_file ends.reply_file >>= acceptance_of) old new ending
     (step (accept_inputs words ends.store_file ends.request_file ends.reply_file) acceptance_of (three_well ends.store_file _ ends.request_file _ ends.reply_file _) acceptance_well)) ends.ends e
 run_4 (Some (Audit words)) old new ending ends e = audit_4 words old new ending ends e
 run_4 (Some (Replay words)) old new ending ends e = replay_4 words old new ending ends e
@@ -192,31 +194,31 @@ abbrev no_leaf : Outcome → Result ℕ Outcome
 no_leaf ending = Err ending
 
 leaf_4 : {K : Type 0} (parts : PutParts) (drawn : Result ℕ Outcome) (out : List ℕ) (old new : Files) (ending : Outcome) → IfErr drawn IsVaultRefusal → (drawn ≡ no_leaf fault → K)
-    → LeafEnds parts drawn out old new ending → ending.status ≡ 4 → Rose old.faults new.faults ⊎ K
+    → LeafEnds parts drawn out old new ending → ending.status ≡ 4 → FolderFailed old new ⊎ K
 leaf_4 parts (Ok leaf) out old new ending why rose (inl written) e = absurd (same_not4 _ _ written.0 (λ four. omega (arith, four)) e)
-leaf_4 parts (Ok leaf) out old new ending why rose (inr (inl unwritten)) e = inl unwritten.1
+leaf_4 parts (Ok leaf) out old new ending why rose (inr (inl unwritten)) e = inl (inr unwritten.1)
 leaf_4 parts (Ok leaf) out old new ending why rose (inr (inr unmade)) e = absurd (same_not4 _ _ unmade.0 (λ four. omega (arith, four)) e)
 leaf_4 parts (Err refusal) out old new ending why rose ends e = vault_4 refusal why (λ failed. rose (ap no_leaf failed)) (sym (ap (λ o. o.status) ends.0) ∙ e)
 
 module _ {K : Type 0} (g : disk.Ghosts K) where
   put_4 : (r : Result PutParts Outcome) (out : List ℕ) (old new : Files) (before after : K) (ending : Outcome) → RefusesWell r → PutEnds g r out old new before after ending → ending.status ≡ 4
-      → Rose old.faults new.faults ⊎ Rose (g.faults before) (g.faults after)
+      → FolderFailed old new ⊎ Rose (g.faults before) (g.faults after)
   put_4 (Ok parts) out old new before after ending well ends e = leaf_4 parts ends.drawn out old new ending ends.draws.why ends.draws.failed ends.ends e
   put_4 (Err refusal) out old new before after ending well ends e = absurd (same_not4 _ _ ends.0 well e)
 
   ask_put_4 : (words : PutWords) (old new : Files) (before after : K) (ending : Outcome) → AskPutEnds g words old new before after ending → ending.status ≡ 4
-      → Rose old.faults new.faults ⊎ Rose (g.faults before) (g.faults after)
+      → FolderFailed old new ⊎ Rose (g.faults before) (g.faults after)
   ask_put_4 words old new before after ending ends e = go ends.ends
     where
-      go : PutEnds g (put_inputs words ends.seed_file ends.store_file ends.content_file >>= put_parts words) words.out old new before after ending ⊎ (Stops old.faults new.faults ending × KeepsAll old new × (after ≡ before))
-          → Rose old.faults new.faults ⊎ Rose (g.faults before) (g.faults after)
+      go : PutEnds g (put_inputs words ends.seed_file ends.store_file ends.content_file >>= put_parts words) words.out old new before after ending ⊎ (Stops old.read_faults new.read_faults ending × KeepsAll old new × (after ≡ before))
+          → FolderFailed old new ⊎ Rose (g.faults before) (g.faults after)
       go (inl made) = put_4 _ words.out old new before after ending
           (step (put_inputs words ends.seed_file ends.store_file ends.content_file) (put_parts words) (three_well ends.seed_file _ ends.store_file _ ends.content_file _) (parts_well words)) made e
-      go (inr stops) = inl (stops_4 _ _ ending stops.0 e)
+      go (inr stops) = inl (inl (stops_4 _ _ ending stops.0 e))
 
   -- a fault of a command was counted by its folder or by the vault's disk
   pub command_4 : (command : Option Command) (old new : Files) (before after : K) (ending : Outcome) → CommandEnds g command old new before after ending → ending.status ≡ 4
-      → Rose old.faults new.faults ⊎ Rose (g.faults before) (g.faults after)
+      → FolderFailed old new ⊎ Rose (g.faults before) (g.faults after)
   command_4 None old new before after ending ends e = inl (run_4 None old new ending ends.0 e)
   command_4 (Some (Judge k v)) old new before after ending ends e = inl (run_4 (Some (Judge k v)) old new ending ends.0 e)
   command_4 (Some (Verify k t s)) old new before after ending ends e = inl (run_4 (Some (Verify k t s)) old new ending ends.0 e)

@@ -4,9 +4,9 @@ use Rattle.std.specs.Global.{Vec}
 use Rattle.cp_outside.specs.Causes.{Rose}
 use Rattle.cp_judge.specs.Judging.{judgement_of}
 use Rattle.cp_judge.specs.declared.judgement.Judgement.{Judgement}
-use Rattle.cp_endings.specs.Endings.{Outcome, judged}
-use Rattle.cp_tool.specs.Runs.{Files, input_of, Stops, KeepsAll, JudgeEnds, VerifyEnds, judge_ending, verify_ending, verified}
-use Rattle.cp_tool.specs.Inputs.{ReadsInput, GivesInput}
+use Rattle.cp_endings.specs.Endings.{Outcome, fault, judged}
+use Rattle.cp_tool.specs.Runs.{Files, input_of, Stops, KeepsAll, ReadsFirst, JudgeEnds, VerifyEnds, judge_ending, verify_ending, verified}
+use Rattle.cp_tool.specs.Inputs.{ReadsInput, GivesInput, StopsAtFault}
 use Rattle.cp_endings.specs.View.{ending_view}
 use Rattle.cp_endings.specs.declared.ending.Ending.{Ending}
 
@@ -24,86 +24,98 @@ gives_before content name limit a b c (Ok bytes) later gives = gives
 gives_before content name limit a b c (Err ending) later (inl refused) = inl refused
 gives_before content name limit a b c (Err ending) later (inr stops) = inr (stops_before a b c _ later stops)
 
+-- a step behind one that did not fail
+pub fails_later : {A : Type 0} (before mid now : ℕ) (result : Result A Ending) → mid ≡ before → StopsAtFault mid now result → StopsAtFault before now result
+fails_later before mid now (Ok x) same failed = failed ∙ same
+fails_later before mid now (Err ending) same (inl stays) = inl (stays ∙ same)
+fails_later before mid now (Err ending) same (inr is) = inr is
+
+-- a command that ends where a step stopped it
+pub stops_first : (old new : Files) (ending : Outcome) → (new.read_faults ≡ old.read_faults) ⊎ (ending ≡ fault) → KeepsAll old new → ReadsFirst old new ending
+stops_first old new ending (inl stays) kept = inl stays
+stops_first old new ending (inr is) kept = inr (is, kept)
+
 -- what was read later, seen from the beginning
-pub read_later : (old mid : Files) (now : ℕ) (name : List ℕ) (limit : ℕ) (result : Result (Vec ℕ) Ending) → KeepsAll old mid → mid.tells ≡ old.tells → old.faults ≤ mid.faults
-    → ReadsInput mid.tells (mid.file name) name limit mid.faults now result → ReadsInput old.tells (old.file name) name limit old.faults now result
-read_later old mid now name limit result kept tells later read = record {
+pub read_later : (old mid : Files) (now : ℕ) (name : List ℕ) (limit : ℕ) (result : Result (Vec ℕ) Ending) → KeepsAll old mid → mid.tells ≡ old.tells → mid.read_faults ≡ old.read_faults
+    → ReadsInput mid.tells (mid.file name) name limit mid.read_faults now result → ReadsInput old.tells (old.file name) name limit old.read_faults now result
+read_later old mid now name limit result kept tells same read = record {
   content = read.content;
   told = λ t. read.told (tells ∙ t) ∙ kept name;
-  gives = gives_before read.content name limit old.faults mid.faults now result later read.gives;
-  later = omega (arith, later, read.later);
+  gives = gives_before read.content name limit old.read_faults mid.read_faults now result (omega (arith, same)) read.gives;
+  later = omega (arith, same, read.later);
+  failed = fails_later old.read_faults mid.read_faults now result same read.failed;
 }
 
 -- ---- judge
 
 -- the key's file was refused
-pub judge_first : (key evidence : List ℕ) (old new : Files) (ending : Ending) → ReadsInput old.tells (old.file key) key 56 old.faults new.faults (Err ending)
+pub judge_first : (key evidence : List ℕ) (old new : Files) (ending : Ending) → ReadsInput old.tells (old.file key) key 56 old.read_faults new.read_faults (Err ending)
     → KeepsAll old new → JudgeEnds key evidence old new (ending_view ending)
 judge_first key evidence old new ending read kept =
-    record { key_file = read.content; evidence_file = old.file evidence; key_is = read.told; evidence_is = λ t. refl; ends = ends read.gives; kept = kept }
+    record { key_file = read.content; evidence_file = old.file evidence; key_is = read.told; evidence_is = λ t. refl; ends = ends read.gives; kept = kept; reads_first = stops_first old new (ending_view ending) read.failed kept }
   where
-    ends : (input_of read.content key 56 ≡ Err (ending_view ending)) ⊎ Stops old.faults new.faults (ending_view ending)
-        → (ending_view ending ≡ judge_ending read.content key (old.file evidence) evidence) ⊎ Stops old.faults new.faults (ending_view ending)
+    ends : (input_of read.content key 56 ≡ Err (ending_view ending)) ⊎ Stops old.read_faults new.read_faults (ending_view ending)
+        → (ending_view ending ≡ judge_ending read.content key (old.file evidence) evidence) ⊎ Stops old.read_faults new.read_faults (ending_view ending)
     ends (inl refused) = inl (rw refused refl)
     ends (inr stops) = inr stops
 
 -- the key's file was read, and the evidence's was refused
-pub judge_second : (key evidence : List ℕ) (old new : Files) (after : ℕ) (bytes : Vec ℕ) (ending : Ending) → ReadsInput old.tells (old.file key) key 56 old.faults after (Ok bytes)
-    → ReadsInput old.tells (old.file evidence) evidence 536870912 old.faults new.faults (Err ending)
+pub judge_second : (key evidence : List ℕ) (old new : Files) (after : ℕ) (bytes : Vec ℕ) (ending : Ending) → ReadsInput old.tells (old.file key) key 56 old.read_faults after (Ok bytes)
+    → ReadsInput old.tells (old.file evidence) evidence 536870912 old.read_faults new.read_faults (Err ending)
     → KeepsAll old new → JudgeEnds key evidence old new (ending_view ending)
 judge_second key evidence old new after bytes ending first second kept =
-    record { key_file = first.content; evidence_file = second.content; key_is = first.told; evidence_is = second.told; ends = ends second.gives; kept = kept }
+    record { key_file = first.content; evidence_file = second.content; key_is = first.told; evidence_is = second.told; ends = ends second.gives; kept = kept; reads_first = stops_first old new (ending_view ending) second.failed kept }
   where
-    ends : (input_of second.content evidence 536870912 ≡ Err (ending_view ending)) ⊎ Stops old.faults new.faults (ending_view ending)
-        → (ending_view ending ≡ judge_ending first.content key second.content evidence) ⊎ Stops old.faults new.faults (ending_view ending)
+    ends : (input_of second.content evidence 536870912 ≡ Err (ending_view ending)) ⊎ Stops old.read_faults new.read_faults (ending_view ending)
+        → (ending_view ending ≡ judge_ending first.content key second.content evidence) ⊎ Stops old.read_faults new.read_faults (ending_view ending)
     ends (inl refused) = inl (rw (first.gives, refused) refl)
     ends (inr stops) = inr stops
 
 -- both files were read
-pub judge_both : (key evidence : List ℕ) (old new : Files) (after : ℕ) (bytes more : Vec ℕ) (judgement : Judgement) → ReadsInput old.tells (old.file key) key 56 old.faults after (Ok bytes)
-    → ReadsInput old.tells (old.file evidence) evidence 536870912 old.faults new.faults (Ok more) → judgement ≡ judgement_of bytes.items more.items
+pub judge_both : (key evidence : List ℕ) (old new : Files) (after : ℕ) (bytes more : Vec ℕ) (judgement : Judgement) → ReadsInput old.tells (old.file key) key 56 old.read_faults after (Ok bytes)
+    → ReadsInput old.tells (old.file evidence) evidence 536870912 old.read_faults new.read_faults (Ok more) → judgement ≡ judgement_of bytes.items more.items
     → KeepsAll old new → JudgeEnds key evidence old new (judged judgement)
 judge_both key evidence old new after bytes more judgement first second is kept =
-    record { key_file = first.content; evidence_file = second.content; key_is = first.told; evidence_is = second.told; ends = inl (rw (first.gives, second.gives) (ap judged is)); kept = kept }
+    record { key_file = first.content; evidence_file = second.content; key_is = first.told; evidence_is = second.told; ends = inl (rw (first.gives, second.gives) (ap judged is)); kept = kept; reads_first = inl second.failed }
 
 -- ---- verify
 
-pub verify_first : (key text signature : List ℕ) (old new : Files) (ending : Ending) → ReadsInput old.tells (old.file key) key 56 old.faults new.faults (Err ending)
+pub verify_first : (key text signature : List ℕ) (old new : Files) (ending : Ending) → ReadsInput old.tells (old.file key) key 56 old.read_faults new.read_faults (Err ending)
     → KeepsAll old new → VerifyEnds key text signature old new (ending_view ending)
 verify_first key text signature old new ending read kept =
-    record { key_file = read.content; text_file = old.file text; signature_file = old.file signature; key_is = read.told; text_is = λ t. refl; signature_is = λ t. refl; ends = ends read.gives; kept = kept }
+    record { key_file = read.content; text_file = old.file text; signature_file = old.file signature; key_is = read.told; text_is = λ t. refl; signature_is = λ t. refl; ends = ends read.gives; kept = kept; reads_first = stops_first old new (ending_view ending) read.failed kept }
   where
-    ends : (input_of read.content key 56 ≡ Err (ending_view ending)) ⊎ Stops old.faults new.faults (ending_view ending)
-        → (ending_view ending ≡ verify_ending read.content key (old.file text) text (old.file signature) signature) ⊎ Stops old.faults new.faults (ending_view ending)
+    ends : (input_of read.content key 56 ≡ Err (ending_view ending)) ⊎ Stops old.read_faults new.read_faults (ending_view ending)
+        → (ending_view ending ≡ verify_ending read.content key (old.file text) text (old.file signature) signature) ⊎ Stops old.read_faults new.read_faults (ending_view ending)
     ends (inl refused) = inl (rw refused refl)
     ends (inr stops) = inr stops
 
-pub verify_second : (key text signature : List ℕ) (old new : Files) (after : ℕ) (bytes : Vec ℕ) (ending : Ending) → ReadsInput old.tells (old.file key) key 56 old.faults after (Ok bytes)
-    → ReadsInput old.tells (old.file text) text 1048576 old.faults new.faults (Err ending)
+pub verify_second : (key text signature : List ℕ) (old new : Files) (after : ℕ) (bytes : Vec ℕ) (ending : Ending) → ReadsInput old.tells (old.file key) key 56 old.read_faults after (Ok bytes)
+    → ReadsInput old.tells (old.file text) text 1048576 old.read_faults new.read_faults (Err ending)
     → KeepsAll old new → VerifyEnds key text signature old new (ending_view ending)
 verify_second key text signature old new after bytes ending first second kept =
-    record { key_file = first.content; text_file = second.content; signature_file = old.file signature; key_is = first.told; text_is = second.told; signature_is = λ t. refl; ends = ends second.gives; kept = kept }
+    record { key_file = first.content; text_file = second.content; signature_file = old.file signature; key_is = first.told; text_is = second.told; signature_is = λ t. refl; ends = ends second.gives; kept = kept; reads_first = stops_first old new (ending_view ending) second.failed kept }
   where
-    ends : (input_of second.content text 1048576 ≡ Err (ending_view ending)) ⊎ Stops old.faults new.faults (ending_view ending)
-        → (ending_view ending ≡ verify_ending first.content key second.content text (old.file signature) signature) ⊎ Stops old.faults new.faults (ending_view ending)
+    ends : (input_of second.content text 1048576 ≡ Err (ending_view ending)) ⊎ Stops old.read_faults new.read_faults (ending_view ending)
+        → (ending_view ending ≡ verify_ending first.content key second.content text (old.file signature) signature) ⊎ Stops old.read_faults new.read_faults (ending_view ending)
     ends (inl refused) = inl (rw (first.gives, refused) refl)
     ends (inr stops) = inr stops
 
-pub verify_third : (key text signature : List ℕ) (old new : Files) (after later : ℕ) (bytes more : Vec ℕ) (ending : Ending) → ReadsInput old.tells (old.file key) key 56 old.faults after (Ok bytes)
-    → ReadsInput old.tells (old.file text) text 1048576 old.faults later (Ok more)
-    → ReadsInput old.tells (old.file signature) signature 16384 old.faults new.faults (Err ending)
+pub verify_third : (key text signature : List ℕ) (old new : Files) (after later : ℕ) (bytes more : Vec ℕ) (ending : Ending) → ReadsInput old.tells (old.file key) key 56 old.read_faults after (Ok bytes)
+    → ReadsInput old.tells (old.file text) text 1048576 old.read_faults later (Ok more)
+    → ReadsInput old.tells (old.file signature) signature 16384 old.read_faults new.read_faults (Err ending)
     → KeepsAll old new → VerifyEnds key text signature old new (ending_view ending)
 verify_third key text signature old new after later bytes more ending first second third kept =
-    record { key_file = first.content; text_file = second.content; signature_file = third.content; key_is = first.told; text_is = second.told; signature_is = third.told; ends = ends third.gives; kept = kept }
+    record { key_file = first.content; text_file = second.content; signature_file = third.content; key_is = first.told; text_is = second.told; signature_is = third.told; ends = ends third.gives; kept = kept; reads_first = stops_first old new (ending_view ending) third.failed kept }
   where
-    ends : (input_of third.content signature 16384 ≡ Err (ending_view ending)) ⊎ Stops old.faults new.faults (ending_view ending)
-        → (ending_view ending ≡ verify_ending first.content key second.content text third.content signature) ⊎ Stops old.faults new.faults (ending_view ending)
+    ends : (input_of third.content signature 16384 ≡ Err (ending_view ending)) ⊎ Stops old.read_faults new.read_faults (ending_view ending)
+        → (ending_view ending ≡ verify_ending first.content key second.content text third.content signature) ⊎ Stops old.read_faults new.read_faults (ending_view ending)
     ends (inl refused) = inl (rw (first.gives, second.gives, refused) refl)
     ends (inr stops) = inr stops
 
-pub verify_all : (key text signature : List ℕ) (old new : Files) (after later : ℕ) (bytes more most : Vec ℕ) (ending : Outcome) → ReadsInput old.tells (old.file key) key 56 old.faults after (Ok bytes)
-    → ReadsInput old.tells (old.file text) text 1048576 old.faults later (Ok more)
-    → ReadsInput old.tells (old.file signature) signature 16384 old.faults new.faults (Ok most)
+pub verify_all : (key text signature : List ℕ) (old new : Files) (after later : ℕ) (bytes more most : Vec ℕ) (ending : Outcome) → ReadsInput old.tells (old.file key) key 56 old.read_faults after (Ok bytes)
+    → ReadsInput old.tells (old.file text) text 1048576 old.read_faults later (Ok more)
+    → ReadsInput old.tells (old.file signature) signature 16384 old.read_faults new.read_faults (Ok most)
     → ending ≡ verified bytes.items more.items most.items → KeepsAll old new → VerifyEnds key text signature old new ending
 verify_all key text signature old new after later bytes more most ending first second third is kept =
-    record { key_file = first.content; text_file = second.content; signature_file = third.content; key_is = first.told; text_is = second.told; signature_is = third.told; ends = inl (rw (first.gives, second.gives, third.gives) is); kept = kept }
+    record { key_file = first.content; text_file = second.content; signature_file = third.content; key_is = first.told; text_is = second.told; signature_is = third.told; ends = inl (rw (first.gives, second.gives, third.gives) is); kept = kept; reads_first = inl third.failed }

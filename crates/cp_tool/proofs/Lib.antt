@@ -6,6 +6,7 @@ pub mod AuditingLemmas
 pub mod Contents
 pub mod DrawLemmas
 pub mod FaultLemmas
+pub mod FirstLemmas
 pub mod InputLemmas
 pub mod SizeLemmas
 pub mod ReplayLemmas

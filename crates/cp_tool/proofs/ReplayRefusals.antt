@@ -7,7 +7,7 @@ use Rattle.cp_replay.specs.Replay as replay
 use Rattle.cp_replay.specs.Script.{script_of}
 use Rattle.cp_replay.specs.declared.line.Line.{Line}
 use Rattle.cp_endings.specs.Endings.{Outcome}
-use Rattle.cp_tool.specs.Folders.{Files, Stops, input_of}
+use Rattle.cp_tool.specs.Folders.{Files, FolderFailed, Stops, input_of}
 use Rattle.cp_tool.specs.ReplayRuns.{ReplayEnds, WrittenEnds, replay_by, replay_in, replay_made}
 use Rattle.cp_commands.specs.ReplayWords.{ReplayWords}
 
@@ -68,14 +68,14 @@ stops_4 : (before now : ℕ) (ending : Outcome) → Stops before now ending → 
 stops_4 before now ending (inl failed) e = failed.1
 stops_4 before now ending (inr memory) e = absurd (omega (arith, e, ap (λ o. o.status) memory))
 
-written_4 : (r : Result replay.Outcome Outcome) (old new : Files) (ending : Outcome) → Refuses3 r → WrittenEnds r old new ending → ending.status ≡ 4 → Rose old.faults new.faults
+written_4 : (r : Result replay.Outcome Outcome) (old new : Files) (ending : Outcome) → Refuses3 r → WrittenEnds r old new ending → ending.status ≡ 4 → Rose old.write_faults new.write_faults
 written_4 (Ok x) old new ending three (inl w) e = absurd (omega (arith, e, ap (λ (o : Outcome). o.status) w.0))
 written_4 (Ok x) old new ending three (inr w) e = w.1
 written_4 (Err refusal) old new ending three ends e = absurd (omega (arith, e, three, ap (λ (o : Outcome). o.status) ends.0))
 
-pub replay_4 : (words : ReplayWords) (old new : Files) (ending : Outcome) → ReplayEnds words old new ending → ending.status ≡ 4 → Rose old.faults new.faults
+pub replay_4 : (words : ReplayWords) (old new : Files) (ending : Outcome) → ReplayEnds words old new ending → ending.status ≡ 4 → FolderFailed old new
 replay_4 words old new ending ends e =
     elim ends.ends [
-      | inl written ↦ written_4 (replay_made words ends.seed_file ends.script_file) old new ending (made_3 words ends.seed_file ends.script_file) written e
-      | inr stops ↦ stops_4 _ _ ending stops.0 e
+      | inl written ↦ inr (written_4 (replay_made words ends.seed_file ends.script_file) old new ending (made_3 words ends.seed_file ends.script_file) written e)
+      | inr stops ↦ inl (stops_4 _ _ ending stops.0 e)
     ]

@@ -14,14 +14,14 @@ use Rattle.cp_endings.specs.declared.ending.Ending.{Ending}
 use Rattle.cp_endings.specs.declared.ending.Ending.TheVariants.{Audited}
 use Rattle.cp_endings.specs.declared.epoch_part.EpochPart.{EpochPart}
 use Rattle.cp_endings.specs.declared.epoch_part.EpochPart.TheVariants.{Families, Closing, Table, Log}
-use Rattle.cp_tool.proofs.InputLemmas.{stops_before}
+use Rattle.cp_tool.proofs.InputLemmas.{fails_later, stops_before}
 
 -- ---- the folder from read to read
 
 pub follows_none : (old : Files) → Follows old old
 follows_none old = record { kept = λ n. refl; tells = refl; later = omega arith }
 
-pub follows_next : (old mid new : Files) → Follows old mid → KeepsAll mid new → new.tells ≡ mid.tells → mid.faults ≤ new.faults → Follows old new
+pub follows_next : (old mid new : Files) → Follows old mid → KeepsAll mid new → new.tells ≡ mid.tells → mid.read_faults ≤ new.read_faults → Follows old new
 follows_next old mid new f kept tells later = record { kept = λ n. kept n ∙ f.kept n; tells = tells ∙ f.tells; later = omega (arith, f.later, later) }
 
 content_kept : (old mid : Files) (input : Option Input) → KeepsAll old mid → content_at mid.file input ≡ content_at old.file input
@@ -34,12 +34,13 @@ gives_before input content a b c (Err ending) later (inl refused) = inl refused
 gives_before input content a b c (Err ending) later (inr stops) = inr (stops_before a b c _ later stops)
 
 -- what was read later, seen from the beginning
-pub source_later : (old mid : Files) (input : Option Input) (now : ℕ) (result : Result (Vec ℕ) Ending) → Follows old mid → ReadsSource mid.tells mid.file input mid.faults now result → ReadsSource old.tells old.file input old.faults now result
-source_later old mid input now result f read = record {
+pub source_later : (old mid : Files) (input : Option Input) (now : ℕ) (result : Result (Vec ℕ) Ending) → Follows old mid → mid.read_faults ≡ old.read_faults → ReadsSource mid.tells mid.file input mid.read_faults now result → ReadsSource old.tells old.file input old.read_faults now result
+source_later old mid input now result f same read = record {
   content = read.content;
   told = λ t. read.told (f.tells ∙ t) ∙ content_kept old mid input f.kept;
-  gives = gives_before input read.content old.faults mid.faults now result f.later read.gives;
+  gives = gives_before input read.content old.read_faults mid.read_faults now result f.later read.gives;
   later = omega (arith, f.later, read.later);
+  failed = fails_later old.read_faults mid.read_faults now result same read.failed;
 }
 
 -- an input file is such a source
@@ -48,7 +49,7 @@ gives_named name limit content before now (Ok bytes) gives = gives
 gives_named name limit content before now (Err ending) gives = gives
 
 pub input_source : (tells : Bool) (file : List ℕ → Option (List ℕ)) (name : List ℕ) (limit before now : ℕ) (result : Result (Vec ℕ) Ending) → ReadsInput tells (file name) name limit before now result → ReadsSource tells file (named name limit) before now result
-input_source tells file name limit before now result read = record { content = read.content; told = read.told; gives = gives_named name limit read.content before now result read.gives; later = read.later }
+input_source tells file name limit before now result read = record { content = read.content; told = read.told; gives = gives_named name limit read.content before now result read.gives; later = read.later; failed = read.failed }
 
 -- so is the file of a part, where this is its name
 pub own_source : (tells : Bool) (file : List ℕ → Option (List ℕ)) (part : EpochPart) (epoch : ℕ) (name : List ℕ) (limit before now : ℕ) (result : Result (Vec ℕ) Ending) → name ≡ epoch_file part epoch
@@ -56,13 +57,13 @@ pub own_source : (tells : Bool) (file : List ℕ → Option (List ℕ)) (part : 
 own_source tells file part epoch name limit before now result same read = input_source tells file (epoch_file part epoch) limit before now result (subst (λ (n : List ℕ). ReadsInput tells (file n) n limit before now result) same read)
 
 -- where there is no such file
-pub own_missing : (tells : Bool) (file : List ℕ → Option (List ℕ)) (part : EpochPart) (epoch : ℕ) (name : List ℕ) (limit before now : ℕ) → name ≡ epoch_file part epoch → (IsTrue tells → file name ≡ None) → before ≤ now
+pub own_missing : (tells : Bool) (file : List ℕ → Option (List ℕ)) (part : EpochPart) (epoch : ℕ) (name : List ℕ) (limit before now : ℕ) → name ≡ epoch_file part epoch → (IsTrue tells → file name ≡ None) → now ≡ before
     → ReadsSource tells file (own part epoch limit) before now (Err (Audited (Missing part epoch)))
-own_missing tells file part epoch name limit before now same none later = record { content = None; told = λ t. sym (none t) ∙ ap file same; gives = inl refl; later = later }
+own_missing tells file part epoch name limit before now same none stays = record { content = None; told = λ t. sym (none t) ∙ ap file same; gives = inl refl; later = omega (arith, stays); failed = inl stays }
 
 -- where there is none to read
 pub no_source : (tells : Bool) (file : List ℕ → Option (List ℕ)) (now : ℕ) (bytes : Vec ℕ) → bytes.items ≡ [] → ReadsSource tells file None now now (Ok bytes)
-no_source tells file now bytes empty = record { content = None; told = λ t. refl; gives = ap (λ (l : List ℕ). Ok l) (sym empty); later = omega arith }
+no_source tells file now bytes empty = record { content = None; told = λ t. refl; gives = ap (λ (l : List ℕ). Ok l) (sym empty); later = omega arith; failed = refl }
 
 -- ---- the first that is refused, or all
 

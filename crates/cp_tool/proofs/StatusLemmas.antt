@@ -1,7 +1,7 @@
 -- What the statuses say.
 use Rattle.std.proofs.Common.{◌≡◌, ◌⊎◌, inl, inr, ℕ, ◌<◌, ◌≤◌, Bool, true, false, cond, List, Option, Some, None, Result, Ok, Err, length, refl, sym, ap, ◌∙◌, subst, arith}
 use Rattle.std.specs.Prelude.{IsTrue, nat_lt, nat_eq}
-use Rattle.std.proofs.lemmas.Bool.{le-ltb}
+use Rattle.std.proofs.lemmas.Bool.{le-ltb, false≢true}
 use Rattle.cp_bytes.specs.Fields.{◌>>=◌}
 use Rattle.cp_outside.specs.Causes.{Rose}
 use Rattle.lms_ots.specs.declared.ots_type.OtsType.{OtsType}
@@ -9,6 +9,7 @@ use Rattle.lms_tree.specs.declared.height.Height.{Height}
 use Rattle.lms_tree.specs.PublicKey.{key_reads}
 use Rattle.lms_tree.specs.Verifying.{verifies}
 use Rattle.lms_tree.specs.Secret.{public_of}
+use Rattle.lms_tree.proofs.Testing.{verifies_tells}
 use Rattle.cp_evidence.specs.Evidence.{Evidence, evidence_of, kind_of}
 use Rattle.cp_evidence.specs.Conditions.{tried}
 use Rattle.cp_judge.specs.Judging.{judgement_of, judgement_on, judgement_by, IsGuilty}
@@ -25,7 +26,9 @@ use Rattle.cp_tool.proofs.AuditRefusals.{audit_not2}
 use Rattle.cp_tool.proofs.ReplayRefusals.{replay_not2}
 use Rattle.cp_endings.specs.Endings.{Outcome, judged, usage, short_seed, unprinted_status}
 use Rattle.cp_endings.specs.Reports.{Reports}
-use Rattle.cp_tool.specs.Runs.{Files, RunEnds, JudgeEnds, KeyEnds, JudgeStatus, Stops, KeepsAll, input_of, ending_of, judge_ending, verify_ending, verified, key_made, secret_in}
+use Rattle.cp_tool.specs.Folders.{FolderFailed}
+use Rattle.cp_tool.specs.Runs.{Files, RunEnds, JudgeEnds, VerifyEnds, KeyEnds, Stops, KeepsAll, input_of, ending_of, judge_ending, verify_ending, verified, key_made, secret_in}
+use Rattle.cp_tool.specs.Statuses.{JudgeStatus, VerifyStatus}
 
 -- ---- no ending of a command but `usage` has the status 2
 
@@ -102,17 +105,17 @@ pub run_2 : (command : Option Command) (old new : Files) (ending : Outcome) → 
 run_2 None old new ending ends e = refl
 run_2 (Some (Judge k v)) old new ending ends e = absurd (judge_case ends.ends e)
   where
-    judge_case : (ending ≡ judge_ending ends.key_file k ends.evidence_file v) ⊎ Stops old.faults new.faults ending → Not2 ending
+    judge_case : (ending ≡ judge_ending ends.key_file k ends.evidence_file v) ⊎ Stops old.read_faults new.read_faults ending → Not2 ending
     judge_case (inl same) = same_not2 _ _ same (judge_not2 ends.key_file k ends.evidence_file v)
     judge_case (inr stops) = stops_not2 _ _ ending stops
 run_2 (Some (Verify k t s)) old new ending ends e = absurd (verify_case ends.ends e)
   where
-    verify_case : (ending ≡ verify_ending ends.key_file k ends.text_file t ends.signature_file s) ⊎ Stops old.faults new.faults ending → Not2 ending
+    verify_case : (ending ≡ verify_ending ends.key_file k ends.text_file t ends.signature_file s) ⊎ Stops old.read_faults new.read_faults ending → Not2 ending
     verify_case (inl same) = same_not2 _ _ same (verify_not2 ends.key_file k ends.text_file t ends.signature_file s)
     verify_case (inr stops) = stops_not2 _ _ ending stops
 run_2 (Some (Keygen s height ots out)) old new ending ends e = absurd (keygen_case ends.ends e)
   where
-    keygen_case : KeyEnds (key_made ends.seed_file s height ots) out old new ending ⊎ (Stops old.faults new.faults ending × KeepsAll old new) → Not2 ending
+    keygen_case : KeyEnds (key_made ends.seed_file s height ots) out old new ending ⊎ (Stops old.read_faults new.read_faults ending × KeepsAll old new) → Not2 ending
     keygen_case (inl made) = key_not2 (key_made ends.seed_file s height ots) out old new ending (made_refuses_3 ends.seed_file s height ots) made
     keygen_case (inr stops) = stops_not2 _ _ ending stops.0
 run_2 (Some (AskPut words)) old new ending ends e = absurd ends
@@ -236,28 +239,42 @@ key_unread_3 key bytes = go (key_reads key) refl
     go true e = rw e (λ three. absurd (on_3 key (evidence_of bytes) three))
     go false e = λ three. e
 
+-- and the other way round
+on_1 : (key : List ℕ) (r : Result Evidence ℕ) → (IsGuilty (judgement_on key r) → ⊥) → (judged (judgement_on key r)).status ≡ 1
+on_1 key (Err at) innocent = refl
+on_1 key (Ok evidence) innocent = by_1 (tried key evidence) innocent
+  where
+    by_1 : (r : Result (Unit {0}) ℕ) → (IsGuilty (judgement_by (kind_of evidence) r) → ⊥) → (judged (judgement_by (kind_of evidence) r)).status ≡ 1
+    by_1 (Ok x) innocent = absurd (innocent tt)
+    by_1 (Err n) innocent = refl
+
+innocent_1 : (key bytes : List ℕ) → IsTrue (key_reads key) → (IsGuilty (judgement_of key bytes) → ⊥) → (judged (judgement_of key bytes)).status ≡ 1
+innocent_1 key bytes reads = rw reads (on_1 key (evidence_of bytes))
+
+bad_3 : (key bytes : List ℕ) → key_reads key ≡ false → (judged (judgement_of key bytes)).status ≡ 3
+bad_3 key bytes bad = rw bad refl
+
+-- the status is a fault's or want of memory's, or the ending's
+abbrev Answered : ℕ → Outcome → Type 0
+Answered status ending = ((status ≡ 4) ⊎ (status ≡ 5)) ⊎ (status ≡ ending.status)
+
 -- what the status says of an ending that is the judgement's
-of_judged : (key bytes : List ℕ) (status : ℕ) → ((status ≡ 4) ⊎ (status ≡ 5)) ⊎ (status ≡ (judged (judgement_of key bytes)).status) → JudgeStatus key bytes status
+of_judged : (key bytes : List ℕ) (status : ℕ) → Answered status (judged (judgement_of key bytes)) → JudgeStatus key bytes status
 of_judged key bytes status (inl high) = record {
-  guilty = λ e. absurd (not_low status 0 high (omega arith) e);
-  convicts = λ c. inr high;
-  innocent = λ e. absurd (not_low status 1 high (omega arith) e);
-  refused = λ e. absurd (not_low status 3 high (omega arith) e);
+  guilty = (λ e. absurd (not_low status 0 high (omega arith) e), λ c. inr high);
+  innocent = (λ e. absurd (not_low status 1 high (omega arith) e), λ c. inr high);
+  refused = (λ e. absurd (not_low status 3 high (omega arith) e), λ c. inr high);
 }
 of_judged key bytes status (inr same) =
     let j = judgement_of key bytes in
     record {
-      guilty = λ e. (guilty key bytes).0 (judged_0 j (sym same ∙ e));
-      convicts = λ c. inl (same ∙ guilty_0 j ((guilty key bytes).1 c));
-      innocent = λ e. (key_read_1 key bytes (sym same ∙ e), λ c. judged_1 j (sym same ∙ e) ((guilty key bytes).1 c));
-      refused = λ e. key_unread_3 key bytes (sym same ∙ e);
+      guilty = (λ e. (guilty key bytes).0 (judged_0 j (sym same ∙ e)), λ c. inl (same ∙ guilty_0 j ((guilty key bytes).1 c)));
+      innocent = (
+        λ e. (key_read_1 key bytes (sym same ∙ e), λ c. judged_1 j (sym same ∙ e) ((guilty key bytes).1 c)),
+        λ c. inl (same ∙ innocent_1 key bytes c.0 (λ found. c.1 ((guilty key bytes).0 found))),
+      );
+      refused = (λ e. key_unread_3 key bytes (sym same ∙ e), λ bad. inl (same ∙ bad_3 key bytes bad));
     }
-
-judged_not5 : (j : Judgement) → (nat_eq (judged j).status 5) ≡ false
-judged_not5 BadKey = refl
-judged_not5 (Malformed at) = refl
-judged_not5 (NotEvidence kind condition) = refl
-judged_not5 (Guilty kind) = refl
 
 pub reported : (held now : Option (List ℕ)) (before after : ℕ) (ending : Outcome) (status : ℕ) → Reports held now before after ending status → ((status ≡ 4) ⊎ (status ≡ 5)) ⊎ (status ≡ ending.status)
 reported held now before after ending status (inl prints) = inr prints.answers
@@ -283,7 +300,7 @@ judge_ends command old new ending held now before after status ends reports k e 
     rw (found_key, found_bytes, input_within key k 56 key_fits, input_within bytes e 536870912 bytes_fit) refl in
     go judge.ends whole
   where
-    go : {goal : Outcome} → (ending ≡ goal) ⊎ Stops old.faults new.faults ending → goal ≡ judged (judgement_of key bytes) → JudgeStatus key bytes status
+    go : {goal : Outcome} → (ending ≡ goal) ⊎ Stops old.read_faults new.read_faults ending → goal ≡ judged (judgement_of key bytes) → JudgeStatus key bytes status
     go (inl same) whole = of_judged key bytes status (told_status (reported held now before after ending status reports) (ap (λ o. o.status) (same ∙ whole)))
       where
         told_status : ((status ≡ 4) ⊎ (status ≡ 5)) ⊎ (status ≡ ending.status) → ending.status ≡ (judged (judgement_of key bytes)).status
@@ -299,14 +316,76 @@ judge_status g command old new first last ending held now before after status en
     let judge : JudgeEnds k e old new ending = (subst (λ c. CommandEnds g c old new first last ending) is ends).0 in
     judge_ends (Some (Judge k e)) old new ending held now before after status judge reports k e key bytes refl told key_is key_fits bytes_is bytes_fit
 
+-- ---- verify
+
+of_verified : (key text signature : List ℕ) (status : ℕ) → Answered status (verified key text signature) → VerifyStatus key text signature status
+of_verified key text signature status (inl high) = record {
+  valid = (λ e. absurd (not_low status 0 high (omega arith) e), λ c. inr high);
+  invalid = (λ e. absurd (not_low status 1 high (omega arith) e), λ c. inr high);
+  refused = (λ e. absurd (not_low status 3 high (omega arith) e), λ c. inr high);
+}
+of_verified key text signature status (inr same) = go (key_reads key) (verifies key text signature) refl refl same
+  where
+    go : (reads good : Bool) → key_reads key ≡ reads → verifies key text signature ≡ good → status ≡ (verified key text signature).status → VerifyStatus key text signature status
+    go true true r g is =
+        let zero : status ≡ 0 = rw (r, g) at is in
+        record {
+          valid = (λ e. g, λ c. inl zero);
+          invalid = (λ e. absurd (omega (arith, e, zero)), λ c. absurd (false≢true (sym c.1 ∙ g)));
+          refused = (λ e. absurd (omega (arith, e, zero)), λ bad. absurd (false≢true (sym bad ∙ r)));
+        }
+    go true false r g is =
+        let one : status ≡ 1 = rw (r, g) at is in
+        record {
+          valid = (λ e. absurd (omega (arith, e, one)), λ c. absurd (false≢true (sym g ∙ c)));
+          invalid = (λ e. (r, g), λ c. inl one);
+          refused = (λ e. absurd (omega (arith, e, one)), λ bad. absurd (false≢true (sym bad ∙ r)));
+        }
+    go false good r g is =
+        let three : status ≡ 3 = rw r at is in
+        record {
+          valid = (λ e. absurd (omega (arith, e, three)), λ c. absurd (false≢true (sym r ∙ (verifies_tells key text signature c).key_reads)));
+          invalid = (λ e. absurd (omega (arith, e, three)), λ c. absurd (false≢true (sym r ∙ c.0)));
+          refused = (λ e. r, λ bad. inl three);
+        }
+
+pub verify_status : {K : Type 0} (g : disk.Ghosts K) (command : Option Command) (old new : Files) (first last : K) (ending : Outcome) (held now : Option (List ℕ)) (before after status : ℕ) → CommandEnds g command old new first last ending
+    → Reports held now before after ending status → (k t s key text signature : List ℕ) → command ≡ Some (Verify k t s) → IsTrue old.tells
+    → old.file k ≡ Some key → length key ≤ 56 → old.file t ≡ Some text → length text ≤ 1048576 → old.file s ≡ Some signature → length signature ≤ 16384 → VerifyStatus key text signature status
+verify_status g command old new first last ending held now before after status ends reports k t s key text signature is told key_is key_fits text_is text_fits signature_is signature_fits = go verify.ends
+  where
+    verify : VerifyEnds k t s old new ending
+    verify = (subst (λ c. CommandEnds g c old new first last ending) is ends).0
+
+    answer : Answered status ending
+    answer = reported held now before after ending status reports
+
+    whole : verify_ending verify.key_file k verify.text_file t verify.signature_file s ≡ verified key text signature
+    whole =
+        let found_key : verify.key_file ≡ Some key = verify.key_is told ∙ key_is in
+        let found_text : verify.text_file ≡ Some text = verify.text_is told ∙ text_is in
+        let found_signature : verify.signature_file ≡ Some signature = verify.signature_is told ∙ signature_is in
+        rw (found_key, found_text, found_signature, input_within key k 56 key_fits, input_within text t 1048576 text_fits, input_within signature s 16384 signature_fits) refl
+
+    answered : (known : Outcome) → ending ≡ known → Answered status ending → Answered status known
+    answered known same (inl high) = inl high
+    answered known same (inr is) = inr (is ∙ ap (λ o. o.status) same)
+
+    go : (ending ≡ verify_ending verify.key_file k verify.text_file t verify.signature_file s) ⊎ Stops old.read_faults new.read_faults ending → VerifyStatus key text signature status
+    go (inl same) = of_verified key text signature status (answered (verified key text signature) (same ∙ whole) answer)
+    go (inr stops) = of_verified key text signature status (inl (stopped _ _ ending status stops answer))
+
 -- a fault was counted by the folder, the vault's disk or the sink
 pub status_4 : {K : Type 0} (g : disk.Ghosts K) (command : Option Command) (old new : Files) (first last : K) (ending : Outcome) (held now : Option (List ℕ)) (before after status : ℕ) → CommandEnds g command old new first last ending
-    → Reports held now before after ending status → status ≡ 4 → Rose old.faults new.faults ⊎ Rose (g.faults first) (g.faults last) ⊎ Rose before after
+    → Reports held now before after ending status → status ≡ 4
+    → Rose old.read_faults new.read_faults ⊎ Rose old.write_faults new.write_faults ⊎ Rose (g.faults first) (g.faults last) ⊎ Rose before after
 status_4 g command old new first last ending held now before after status ends (inl prints) e = go (command_4 g command old new first last ending ends (sym prints.answers ∙ e))
   where
-    go : Rose old.faults new.faults ⊎ Rose (g.faults first) (g.faults last) → Rose old.faults new.faults ⊎ Rose (g.faults first) (g.faults last) ⊎ Rose before after
-    go (inl files) = inl files
-    go (inr vault) = inr (inl vault)
-status_4 g command old new first last ending held now before after status ends (inr fails) e = inr (inr fails.cause)
+    go : FolderFailed old new ⊎ Rose (g.faults first) (g.faults last)
+        → Rose old.read_faults new.read_faults ⊎ Rose old.write_faults new.write_faults ⊎ Rose (g.faults first) (g.faults last) ⊎ Rose before after
+    go (inl (inl reads)) = inl reads
+    go (inl (inr writes)) = inr (inl writes)
+    go (inr vault) = inr (inr (inl vault))
+status_4 g command old new first last ending held now before after status ends (inr fails) e = inr (inr (inr fails.cause))
 
 pub ruleset statuses = (no_command_2, judge_status, disk_untouched)

@@ -29,5 +29,5 @@ Answers sources (Err ending) = (verdict_of sources ≡ Err (ending_view ending))
 
 -- the evidence was written and is named, or its write failed; the other files stay
 pub record WritesEvidence (e : Evidence) (bytes out : List ℕ) (old new : Files) (ending : Outcome) : Type 0 where
-  pub written : ((ending ≡ guilty (guilt_of e)) × (IsTrue old.tells → new.file out ≡ Some bytes)) ⊎ ((ending ≡ fault) × Rose old.faults new.faults)
+  pub written : ((ending ≡ guilty (guilt_of e)) × (IsTrue old.tells → new.file out ≡ Some bytes)) ⊎ ((ending ≡ fault) × Rose old.write_faults new.write_faults)
   pub others : KeepsOthers out old new

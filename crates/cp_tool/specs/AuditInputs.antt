@@ -5,6 +5,7 @@ use Rattle.cp_tool.specs.AuditRuns as spec
 use Rattle.cp_tool.specs.AuditRuns.{Input, AuditFiles, content_at, bytes_of, files_in, sources_of}
 use Rattle.cp_commands.specs.AuditWords.{AuditWords}
 use Rattle.cp_tool.specs.Folders.{Files, Stops, KeepsAll}
+use Rattle.cp_tool.specs.Inputs.{StopsAtFault}
 use Rattle.cp_endings.specs.View.{ending_view}
 use Rattle.cp_endings.specs.declared.ending.Ending.{Ending}
 use Rattle.cp_tool.specs.declared.audit_sources.Sources.{Sources}
@@ -19,6 +20,7 @@ pub record ReadsSource (tells : Bool) (file : List ℕ → Option (List ℕ)) (i
   pub told : IsTrue tells → content ≡ content_at file input
   pub gives : GivesBytes input content before now result
   pub later : before ≤ now
+  pub failed : StopsAtFault before now result
 
 abbrev pub sources_view : ℕ → Sources → spec.Sources
 sources_view epoch s = record {
@@ -30,15 +32,16 @@ abbrev pub GivesSources : AuditWords → AuditFiles → ℕ → ℕ → Result S
 GivesSources words files before now (Ok s) = sources_of words files ≡ Ok (sources_view words.epoch s)
 GivesSources words files before now (Err ending) = (sources_of words files ≡ Err (ending_view ending)) ⊎ Stops before now (ending_view ending)
 
--- a folder whose files stay, whose count does not fall
+-- a folder whose files stay, and whose count of failed reads does not fall
 pub record Follows (old new : Files) : Type 0 where
   pub kept : KeepsAll old new
   pub tells : new.tells ≡ old.tells
-  pub later : old.faults ≤ new.faults
+  pub later : old.read_faults ≤ new.read_faults
 
 -- some contents were read, which are the files' where the folder tells its files
 pub record ReadsSources (words : AuditWords) (old new : Files) (result : Result Sources Ending) : Type 0 where
   pub files : AuditFiles
   pub are_files : IsTrue old.tells → files ≡ files_in old.file words
-  pub gives : GivesSources words files old.faults new.faults result
+  pub gives : GivesSources words files old.read_faults new.read_faults result
   pub follows : Follows old new
+  pub failed : StopsAtFault old.read_faults new.read_faults result

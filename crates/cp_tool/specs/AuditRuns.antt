@@ -14,7 +14,7 @@ use Rattle.cp_endings.specs.AuditEndings.{clean, guilt_of, guilty, not_given, ma
 use Rattle.cp_commands.specs.AuditWords.{AuditWords}
 use Rattle.cp_endings.specs.EpochFiles.{epoch_file}
 use Rattle.cp_endings.specs.Endings.{Outcome, bad_key, fault}
-use Rattle.cp_tool.specs.Folders.{Files, input_of, Stops, KeepsAll, KeepsOthers}
+use Rattle.cp_tool.specs.Folders.{Files, input_of, Stops, KeepsAll, KeepsOthers, ReadsFirst}
 use Rattle.cp_endings.specs.declared.epoch_part.EpochPart.{EpochPart}
 use Rattle.cp_endings.specs.declared.epoch_part.EpochPart.TheVariants.{Families, Closing, Table, Log}
 
@@ -104,7 +104,7 @@ verdict_of sources = if key_reads sources.material.key then answered sources.mat
 pub record GuiltyEnds (key : List ℕ) (e : Evidence) (out : List ℕ) (old new : Files) (ending : Outcome) : Type 0 where
   pub convicts : Convicts key (evidence_text e)
   pub is_short : length (evidence_text e) ≤ 536870912
-  pub written : ((ending ≡ guilty (guilt_of e)) × (IsTrue old.tells → new.file out ≡ Some (evidence_text e))) ⊎ ((ending ≡ fault) × Rose old.faults new.faults)
+  pub written : ((ending ≡ guilty (guilt_of e)) × (IsTrue old.tells → new.file out ≡ Some (evidence_text e))) ⊎ ((ending ≡ fault) × Rose old.write_faults new.write_faults)
 
 -- Nothing is written but evidence.
 abbrev pub VerdictEnds : List ℕ → Verdict → List ℕ → Files → Files → Outcome → Type 0
@@ -120,5 +120,6 @@ pub record AuditEnds (words : AuditWords) (old new : Files) (ending : Outcome) :
   -- what the folder gave as the files, which are its files where it tells them
   pub files : AuditFiles
   pub are_files : IsTrue old.tells → files ≡ files_in old.file words
-  pub ends : AnswerEnds (sources_of words files >>= verdict_of) words.out old new ending ⊎ (Stops old.faults new.faults ending × KeepsAll old new)
+  pub ends : AnswerEnds (sources_of words files >>= verdict_of) words.out old new ending ⊎ (Stops old.read_faults new.read_faults ending × KeepsAll old new)
   pub others : KeepsOthers words.out old new
+  pub reads_first : ReadsFirst old new ending

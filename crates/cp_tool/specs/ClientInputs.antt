@@ -5,21 +5,22 @@ use Rattle.cp_outside.specs.Causes.{Rose}
 use Rattle.cp_outside.specs.Disks.{LeavesOnly}
 use Rattle.cp_outside.specs.declared.disk.Disk as disk
 use Rattle.key_vault.specs.Slots.{opening}
-use Rattle.key_vault.specs.Vaults.{file_number}
-use Rattle.key_vault.specs.declared.file.VaultFile.{VaultFile}
 use Rattle.lms_tree.specs.PublicKey.{key_reads}
 use Rattle.cp_client.specs.Accepting as accepting
 use Rattle.cp_client.specs.View.{accepted_view}
 use Rattle.cp_client.specs.declared.accepted.Accepted.{Accepted}
 use Rattle.cp_commands.specs.ClientWords.{PutWords, AcceptWords}
-use Rattle.cp_endings.specs.ClientEndings.{accepted}
+use Rattle.cp_endings.specs.ClientEndings.{accepted, over, other_key, damaged}
 use Rattle.cp_tool.specs.ClientRuns as runs
 use Rattle.cp_tool.specs.ClientRuns.{three_of}
 use Rattle.cp_endings.specs.Endings.{Outcome, fault}
 use Rattle.cp_tool.specs.Folders.{Files, Stops, IsFile}
+use Rattle.cp_tool.specs.Inputs.{StopsAtFault}
 use Rattle.cp_tool.specs.PutRuns.{number_before, put_parts, made_from, IsMaking, IsVaultRefusal}
 use Rattle.cp_endings.specs.View.{ending_view}
 use Rattle.cp_tool.specs.declared.drawing.DrawnLeaf.{DrawnLeaf}
+use Rattle.cp_tool.specs.declared.drawing.NoLeaf.{NoLeaf}
+use Rattle.cp_tool.specs.declared.drawing.NoLeaf.TheVariants.{OtherKey, Damaged, Over, DiskFault}
 use Rattle.cp_endings.specs.declared.ending.Ending.{Ending}
 use Rattle.cp_tool.specs.declared.three_inputs.Input.{Input}
 use Rattle.cp_tool.specs.declared.three_inputs.ThreeFiles.{ThreeFiles}
@@ -44,8 +45,9 @@ pub record ReadsThree (a b c : runs.Input) (old new : Files) (result : Result Th
   pub first_is : IsFile old a.name first_file
   pub second_is : IsFile old b.name second_file
   pub third_is : IsFile old c.name third_file
-  pub gives : GivesThree (three_of first_file a second_file b third_file c) old.faults new.faults result
-  pub later : old.faults ≤ new.faults
+  pub gives : GivesThree (three_of first_file a second_file b third_file c) old.read_faults new.read_faults result
+  pub later : old.read_faults ≤ new.read_faults
+  pub failed : StopsAtFault old.read_faults new.read_faults result
 
 -- ---- ask-put
 
@@ -54,11 +56,18 @@ abbrev pub JudgesPut : runs.Three → Result (List ℕ) Ending → Type 0
 JudgesPut files (Ok store) = (48 ≤ length files.first) × IsTrue (key_reads files.second) × (store ≡ sha256 files.second)
 JudgesPut files (Err ending) = (words : PutWords) → put_parts words files ≡ Err (ending_view ending)
 
--- the reserved number of a vault that was opened, and the leaf that was drawn
-abbrev pub number_answer : Result VaultFile Ending → Result ℕ Outcome
-number_answer (Ok file) = Ok (file_number file)
-number_answer (Err ending) = Err (ending_view ending)
+-- why no leaf was drawn, as the command ends then
+abbrev pub no_leaf : NoLeaf → Outcome
+no_leaf OtherKey = other_key
+no_leaf (Damaged reserved leaves) = damaged reserved leaves
+no_leaf (Over reserved leaves) = over reserved leaves
+no_leaf DiskFault = fault
 
+abbrev pub leaf_drawn : Result DrawnLeaf NoLeaf → Result ℕ Outcome
+leaf_drawn (Ok drawn) = Ok drawn.leaf
+leaf_drawn (Err why) = Err (no_leaf why)
+
+-- the leaf that was drawn
 abbrev pub leaf_answer : Result DrawnLeaf Ending → Result ℕ Outcome
 leaf_answer (Ok drawn) = Ok drawn.leaf
 leaf_answer (Err ending) = Err (ending_view ending)
@@ -97,4 +106,4 @@ StopsWriting words envelope old new = words.out ≢ words.content → (new.file 
 
 abbrev pub WritesEnds : AcceptWords → List ℕ → accepting.Accepted → Files → Files → Outcome → Type 0
 WritesEnds words envelope x old new ending =
-    ((ending ≡ accepted x.attestation) × (IsTrue old.tells → WritesBoth words envelope x.content new)) ⊎ ((ending ≡ fault) × Rose old.faults new.faults × StopsWriting words envelope old new)
+    ((ending ≡ accepted x.attestation) × (IsTrue old.tells → WritesBoth words envelope x.content new)) ⊎ ((ending ≡ fault) × Rose old.write_faults new.write_faults × StopsWriting words envelope old new)

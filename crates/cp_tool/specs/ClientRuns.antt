@@ -10,7 +10,7 @@ use Rattle.cp_client.specs.Asking.{Asked, asked_of}
 use Rattle.cp_client.specs.Accepting.{Accepted, accept_of}
 use Rattle.cp_client.specs.declared.refusals.ClientRefusal.{ClientRefusal}
 use Rattle.cp_client.specs.declared.refusals.ClientRefusal.TheVariants.{Malformed}
-use Rattle.cp_tool.specs.Folders.{Files, input_of, Stops, KeepsAll, KeepsOthers, IsFile}
+use Rattle.cp_tool.specs.Folders.{Files, input_of, Stops, KeepsAll, KeepsOthers, IsFile, ReadsFirst}
 use Rattle.cp_commands.specs.ClientWords.{CallWords, GetWords, AcceptWords}
 use Rattle.cp_endings.specs.Endings.{Outcome, bad_key, fault}
 use Rattle.cp_endings.specs.ClientEndings.{asked_get, accepted, refused}
@@ -54,14 +54,15 @@ get_asked words store_file = do
 -- They were written; or their write failed, after which the file of its name may hold anything; or an
 -- input was refused and nothing was written.
 abbrev pub GetEnds : Result (List ℕ) Outcome → List ℕ → Files → Files → Outcome → Type 0
-GetEnds (Ok bytes) out old new ending = ((ending ≡ asked_get) × (IsTrue old.tells → new.file out ≡ Some bytes)) ⊎ ((ending ≡ fault) × Rose old.faults new.faults)
+GetEnds (Ok bytes) out old new ending = ((ending ≡ asked_get) × (IsTrue old.tells → new.file out ≡ Some bytes)) ⊎ ((ending ≡ fault) × Rose old.write_faults new.write_faults)
 GetEnds (Err refusal) out old new ending = (ending ≡ refusal) × KeepsAll old new
 
 pub record AskGetEnds (words : GetWords) (old new : Files) (ending : Outcome) : Type 0 where
   pub store_file : Option (List ℕ)
   pub store_is : IsFile old words.store store_file
-  pub ends : GetEnds (get_asked words store_file) words.out old new ending ⊎ (Stops old.faults new.faults ending × KeepsAll old new)
+  pub ends : GetEnds (get_asked words store_file) words.out old new ending ⊎ (Stops old.read_faults new.read_faults ending × KeepsAll old new)
   pub others : KeepsOthers words.out old new
+  pub reads_first : ReadsFirst old new ending
 
 -- ---- accept: the store's key of 56 bytes, a request and a reply of at most 128 KiB each
 
@@ -96,7 +97,7 @@ StopsAccepted words x old new = words.out ≢ words.content → (new.file words.
 
 -- Both were written; or a write failed; or an input was refused and nothing was written.
 abbrev pub AcceptanceEnds : AcceptWords → Result Accepted Outcome → Files → Files → Outcome → Type 0
-AcceptanceEnds words (Ok x) old new ending = ((ending ≡ accepted x.attestation) × (IsTrue old.tells → WritesAccepted words x new)) ⊎ ((ending ≡ fault) × Rose old.faults new.faults × StopsAccepted words x old new)
+AcceptanceEnds words (Ok x) old new ending = ((ending ≡ accepted x.attestation) × (IsTrue old.tells → WritesAccepted words x new)) ⊎ ((ending ≡ fault) × Rose old.write_faults new.write_faults × StopsAccepted words x old new)
 AcceptanceEnds words (Err refusal) old new ending = (ending ≡ refusal) × KeepsAll old new
 
 pub record AcceptEnds (words : AcceptWords) (old new : Files) (ending : Outcome) : Type 0 where
@@ -106,5 +107,6 @@ pub record AcceptEnds (words : AcceptWords) (old new : Files) (ending : Outcome)
   pub store_is : IsFile old words.store store_file
   pub request_is : IsFile old words.request request_file
   pub reply_is : IsFile old words.reply reply_file
-  pub ends : AcceptanceEnds words (accept_inputs words store_file request_file reply_file >>= acceptance_of) old new ending ⊎ (Stops old.faults new.faults ending × KeepsAll old new)
+  pub ends : AcceptanceEnds words (accept_inputs words store_file request_file reply_file >>= acceptance_of) old new ending ⊎ (Stops old.read_faults new.read_faults ending × KeepsAll old new)
   pub others : (name : List ℕ) → name ≢ words.out → name ≢ words.content → new.file name ≡ old.file name
+  pub reads_first : ReadsFirst old new ending

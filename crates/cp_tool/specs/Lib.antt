@@ -6,9 +6,11 @@ pub mod AuditRuns
 pub mod AuditStatus
 pub mod Folders
 pub mod Inputs
+pub mod Outputs
 pub mod PutRuns
 pub mod ReplayFiles
 pub mod ReplayInputs
 pub mod ReplayRuns
 pub mod ReplayView
 pub mod Runs
+pub mod Statuses

@@ -106,7 +106,7 @@ put_body parts leaf = put_body_text (signed_put parts.secret leaf parts.request 
 -- may hold anything; or memory was wanted before it. Without a leaf nothing is written.
 abbrev pub LeafEnds : PutParts → Result ℕ Outcome → List ℕ → Files → Files → Outcome → Type 0
 LeafEnds parts (Ok leaf) out old new ending =
-    ((ending ≡ asked_put leaf) × (IsTrue old.tells → new.file out ≡ Some (put_body parts leaf))) ⊎ ((ending ≡ fault) × Rose old.faults new.faults) ⊎ ((ending ≡ no_memory) × KeepsAll old new)
+    ((ending ≡ asked_put leaf) × (IsTrue old.tells → new.file out ≡ Some (put_body parts leaf))) ⊎ ((ending ≡ fault) × Rose old.write_faults new.write_faults) ⊎ ((ending ≡ no_memory) × KeepsAll old new)
 LeafEnds parts (Err refusal) out old new ending = (ending ≡ refusal) × KeepsAll old new
 
 module _ {K : Type 0} (g : disk.Ghosts K) where
@@ -121,6 +121,12 @@ module _ {K : Type 0} (g : disk.Ghosts K) where
   PutEnds (Ok parts) out old new before after ending = PutDraws parts out old new before after ending
   PutEnds (Err refusal) out old new before after ending = (ending ≡ refusal) × KeepsAll old new × (after ≡ before)
 
+  -- Either the count of failed reads stays, or the command ended at one with a fault, all files are as
+  -- before and no leaf was taken.
+  abbrev pub TakesFirst : Files → Files → K → K → Outcome → Type 0
+  TakesFirst old new before after ending =
+      (new.read_faults ≡ old.read_faults) ⊎ ((ending ≡ fault) × KeepsAll old new × (after ≡ before))
+
   pub record AskPutEnds (words : PutWords) (old new : Files) (before after : K) (ending : Outcome) : Type 0 where
     pub seed_file : Option (List ℕ)
     pub store_file : Option (List ℕ)
@@ -129,8 +135,9 @@ module _ {K : Type 0} (g : disk.Ghosts K) where
     pub store_is : IsFile old words.store store_file
     pub content_is : IsFile old words.content content_file
     pub ends : PutEnds (put_inputs words seed_file store_file content_file >>= put_parts words) words.out old new before after ending
-        ⊎ (Stops old.faults new.faults ending × KeepsAll old new × (after ≡ before))
+        ⊎ (Stops old.read_faults new.read_faults ending × KeepsAll old new × (after ≡ before))
     pub others : KeepsOthers words.out old new
+    pub reads_first : TakesFirst old new before after ending
 
   -- ---- all commands: none but `ask-put` touches the vault's disk
 

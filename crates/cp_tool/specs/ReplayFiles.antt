@@ -1,9 +1,10 @@
 -- The files that a replay writes, and a folder after them (this project's own).
-use Rattle.std.specs.Prelude.{ℕ, ◌+◌, ◌≡◌, ◌≢◌, List, [], ◌∷◌, ◌++◌, Option, Some, codes, bytes_eq, if◌then◌else◌, IsTrue}
+use Rattle.std.specs.Prelude.{ℕ, ◌+◌, ◌≡◌, ◌≢◌, ◌⊎◌, List, [], ◌∷◌, ◌++◌, Option, Some, codes, bytes_eq, if◌then◌else◌, IsTrue}
 use Rattle.cp_replay.specs.Replay as replay
 use Rattle.cp_replay.specs.declared.epoch_files.EpochFiles.{EpochFiles}
 use Rattle.cp_endings.specs.EpochFiles.{epoch_file}
 use Rattle.cp_tool.specs.Folders.{Files}
+use Rattle.cp_endings.specs.declared.epoch_part.EpochPart.{EpochPart}
 use Rattle.cp_endings.specs.declared.epoch_part.EpochPart.TheVariants.{Families, Closing, Table, Log}
 
 -- a file that is written: its name and its bytes
@@ -27,6 +28,11 @@ epochs_writes epoch (x ∷ xs) = epoch_writes epoch x ++ epochs_writes (epoch + 
 
 abbrev pub writes_of : replay.Outcome → List FileWrite
 writes_of x = write_of (codes "store.key") x.key ∷ (write_of (codes "handins") x.handins ∷ epochs_writes 1 x.epochs)
+
+-- the name of a file that some replay writes
+abbrev pub IsReplayFile : List ℕ → Type 0
+IsReplayFile name =
+    (name ≡ codes "store.key") ⊎ (name ≡ codes "handins") ⊎ ((part : EpochPart) × (epoch : ℕ) × (name ≡ epoch_file part epoch))
 
 -- ---- a folder after them
 

@@ -8,6 +8,7 @@ use Rattle.cp_replay.specs.View.{outcome_view}
 use Rattle.cp_replay.specs.declared.replayed.Replayed.{Replayed}
 use Rattle.cp_endings.specs.Endings.{Outcome, fault, no_memory}
 use Rattle.cp_tool.specs.Folders.{Files, KeepsAll, Stops, IsFile}
+use Rattle.cp_tool.specs.Inputs.{StopsAtFault}
 use Rattle.cp_tool.specs.ReplayFiles.{FileWrite, WritesAll, StopsAt, writes_of}
 use Rattle.cp_tool.specs.ReplayRuns.{replay_in, replay_made}
 use Rattle.cp_commands.specs.ReplayWords.{ReplayWords}
@@ -30,14 +31,15 @@ pub record MakesReplay (words : ReplayWords) (old new : Files) (result : Result 
   pub script_file : Option (List ℕ)
   pub seed_is : IsFile old words.seed seed_file
   pub script_is : IsFile old words.script script_file
-  pub gives : GivesMade (replay_made words seed_file script_file) old.faults new.faults result
+  pub gives : GivesMade (replay_made words seed_file script_file) old.read_faults new.read_faults result
+  pub failed : StopsAtFault old.read_faults new.read_faults result
 
 -- all files were written, or those before one whose write failed
 abbrev pub WritesFiles : List FileWrite → Files → Files → Result (Unit {0}) Failed → Type 0
 WritesFiles writes old new (Ok done) = WritesAll writes old new
-WritesFiles writes old new (Err failed) = Rose old.faults new.faults × StopsAt writes old new
+WritesFiles writes old new (Err failed) = Rose old.write_faults new.write_faults × StopsAt writes old new
 
 -- its files were written, or those before one whose write failed, or memory was wanted before them
 abbrev pub WritesReplay : Replayed → Files → Files → Result (Unit {0}) Ending → Type 0
 WritesReplay done old new (Ok written) = WritesAll (writes_of (outcome_view done)) old new
-WritesReplay done old new (Err ending) = ((ending_view ending ≡ fault) × Rose old.faults new.faults × StopsAt (writes_of (outcome_view done)) old new) ⊎ ((ending_view ending ≡ no_memory) × KeepsAll old new)
+WritesReplay done old new (Err ending) = ((ending_view ending ≡ fault) × Rose old.write_faults new.write_faults × StopsAt (writes_of (outcome_view done)) old new) ⊎ ((ending_view ending ≡ no_memory) × KeepsAll old new)

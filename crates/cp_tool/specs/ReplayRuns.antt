@@ -7,8 +7,8 @@ use Rattle.cp_replay.specs.Replay.{Making, replayed}
 use Rattle.cp_replay.specs.Script.{script_of}
 use Rattle.cp_replay.specs.declared.line.Line.{Line}
 use Rattle.cp_endings.specs.Endings.{Outcome, short_seed, malformed, printed, fault}
-use Rattle.cp_tool.specs.Folders.{Files, input_of, Stops, KeepsAll, IsFile}
-use Rattle.cp_tool.specs.ReplayFiles.{WritesAll, StopsAt, writes_of}
+use Rattle.cp_tool.specs.Folders.{Files, input_of, Stops, KeepsAll, IsFile, ReadsFirst}
+use Rattle.cp_tool.specs.ReplayFiles.{IsReplayFile, WritesAll, StopsAt, writes_of}
 use Rattle.cp_commands.specs.ReplayWords.{ReplayWords}
 
 -- what the store is made with
@@ -33,7 +33,7 @@ replay_made words seed_file script_file = do
 -- Its files were written and its lines are printed; or a write failed, after those before it; or an
 -- input was refused and nothing was written.
 abbrev pub WrittenEnds : Result replay.Outcome Outcome → Files → Files → Outcome → Type 0
-WrittenEnds (Ok x) old new ending = ((ending ≡ printed x.text) × WritesAll (writes_of x) old new) ⊎ ((ending ≡ fault) × Rose old.faults new.faults × StopsAt (writes_of x) old new)
+WrittenEnds (Ok x) old new ending = ((ending ≡ printed x.text) × WritesAll (writes_of x) old new) ⊎ ((ending ≡ fault) × Rose old.write_faults new.write_faults × StopsAt (writes_of x) old new)
 WrittenEnds (Err refusal) old new ending = (ending ≡ refusal) × KeepsAll old new
 
 -- Where the command stops before its writes, for want of memory or at a fault of a read, all files stay.
@@ -42,4 +42,6 @@ pub record ReplayEnds (words : ReplayWords) (old new : Files) (ending : Outcome)
   pub script_file : Option (List ℕ)
   pub seed_is : IsFile old words.seed seed_file
   pub script_is : IsFile old words.script script_file
-  pub ends : WrittenEnds (replay_made words seed_file script_file) old new ending ⊎ (Stops old.faults new.faults ending × KeepsAll old new)
+  pub ends : WrittenEnds (replay_made words seed_file script_file) old new ending ⊎ (Stops old.read_faults new.read_faults ending × KeepsAll old new)
+  pub others : (name : List ℕ) → ¬ IsReplayFile name → new.file name ≡ old.file name
+  pub reads_first : ReadsFirst old new ending

@@ -1,5 +1,5 @@
 -- How each command ends, over the files of its folder (this project's own).
-use Rattle.std.specs.Prelude.{ℕ, ◌≡◌, ◌⊎◌, false, List, length, take, drop, Option, Some, None, Result, Ok, Err, nat_lt, if◌then◌else◌, IsTrue}
+use Rattle.std.specs.Prelude.{ℕ, ◌≡◌, ◌⊎◌, List, length, take, drop, Option, Some, None, Result, Ok, Err, nat_lt, if◌then◌else◌, IsTrue}
 use Rattle.cp_bytes.specs.Fields.{◌>>=◌}
 use Rattle.cp_outside.specs.Causes.{Rose}
 use Rattle.lms_ots.specs.declared.ots_type.OtsType.{OtsType}
@@ -7,14 +7,13 @@ use Rattle.lms_tree.specs.declared.height.Height.{Height}
 use Rattle.lms_tree.specs.PublicKey.{key_reads}
 use Rattle.lms_tree.specs.Verifying.{verifies}
 use Rattle.lms_tree.specs.Secret.{Secret, public_of}
-use Rattle.cp_evidence.specs.Conditions.{Convicts}
 use Rattle.cp_judge.specs.Judging.{judgement_of}
 use Rattle.cp_commands.specs.Commands.{Command}
 use Rattle.cp_commands.specs.Commands.Command.{Judge, Verify, Keygen, AskPut, AskGet, Accept, Audit, Replay}
 use Rattle.cp_tool.specs.AuditRuns.{AuditEnds}
 use Rattle.cp_tool.specs.ReplayRuns.{ReplayEnds}
 use Rattle.cp_tool.specs.ClientRuns.{AskGetEnds, AcceptEnds}
-pub use Rattle.cp_tool.specs.Folders.{Files, input_of, ending_of, Stops, KeepsAll, KeepsOthers, IsFile}
+pub use Rattle.cp_tool.specs.Folders.{Files, files_of, input_of, ending_of, Stops, KeepsAll, KeepsOthers, IsFile, ReadsFirst}
 use Rattle.cp_endings.specs.Endings.{Outcome, usage, short_seed, bad_key, judged, valid, invalid, made, fault}
 
 -- ---- judge: a key of 56 bytes, evidence of at most 512 MiB
@@ -30,15 +29,9 @@ pub record JudgeEnds (key evidence : List ℕ) (old new : Files) (ending : Outco
   pub evidence_file : Option (List ℕ)
   pub key_is : IsFile old key key_file
   pub evidence_is : IsFile old evidence evidence_file
-  pub ends : (ending ≡ judge_ending key_file key evidence_file evidence) ⊎ Stops old.faults new.faults ending
+  pub ends : (ending ≡ judge_ending key_file key evidence_file evidence) ⊎ Stops old.read_faults new.read_faults ending
   pub kept : KeepsAll old new
-
--- what the status says of a key and evidence that were within their limits
-pub record JudgeStatus (key evidence : List ℕ) (status : ℕ) : Type 0 where
-  pub guilty : status ≡ 0 → Convicts key evidence
-  pub convicts : Convicts key evidence → (status ≡ 0) ⊎ (status ≡ 4) ⊎ (status ≡ 5)
-  pub innocent : status ≡ 1 → IsTrue (key_reads key) × ¬ Convicts key evidence
-  pub refused : status ≡ 3 → key_reads key ≡ false
+  pub reads_first : ReadsFirst old new ending
 
 -- ---- verify: a key of 56 bytes, a text of at most 1 MiB, a signature of at most 16 KiB
 
@@ -59,8 +52,9 @@ pub record VerifyEnds (key text signature : List ℕ) (old new : Files) (ending 
   pub key_is : IsFile old key key_file
   pub text_is : IsFile old text text_file
   pub signature_is : IsFile old signature signature_file
-  pub ends : (ending ≡ verify_ending key_file key text_file text signature_file signature) ⊎ Stops old.faults new.faults ending
+  pub ends : (ending ≡ verify_ending key_file key text_file text signature_file signature) ⊎ Stops old.read_faults new.read_faults ending
   pub kept : KeepsAll old new
+  pub reads_first : ReadsFirst old new ending
 
 -- ---- keygen: a seed of 48 bytes, SEED and then I
 
@@ -76,20 +70,21 @@ key_made seed_file seed height ots = do
 -- The key was written and is printed; or its write failed, after which the file of its name may hold
 -- anything; or an input was refused and nothing was written.
 abbrev pub KeyEnds : Result (List ℕ) Outcome → List ℕ → Files → Files → Outcome → Type 0
-KeyEnds (Ok key) out old new ending = ((ending ≡ made key) × (IsTrue old.tells → new.file out ≡ Some key)) ⊎ ((ending ≡ fault) × Rose old.faults new.faults)
+KeyEnds (Ok key) out old new ending = ((ending ≡ made key) × (IsTrue old.tells → new.file out ≡ Some key)) ⊎ ((ending ≡ fault) × Rose old.write_faults new.write_faults)
 KeyEnds (Err refusal) out old new ending = (ending ≡ refusal) × KeepsAll old new
 
 -- Where the command stops before its write, for want of memory or at a fault of a read, all files stay.
 pub record KeygenEnds (seed : List ℕ) (height : Height) (ots : OtsType) (out : List ℕ) (old new : Files) (ending : Outcome) : Type 0 where
   pub seed_file : Option (List ℕ)
   pub seed_is : IsFile old seed seed_file
-  pub ends : KeyEnds (key_made seed_file seed height ots) out old new ending ⊎ (Stops old.faults new.faults ending × KeepsAll old new)
+  pub ends : KeyEnds (key_made seed_file seed height ots) out old new ending ⊎ (Stops old.read_faults new.read_faults ending × KeepsAll old new)
   pub others : KeepsOthers out old new
+  pub reads_first : ReadsFirst old new ending
 
 -- ---- all commands that take files alone
 
 abbrev pub RunEnds : Option Command → Files → Files → Outcome → Type 0
-RunEnds None old new ending = (ending ≡ usage) × KeepsAll old new
+RunEnds None old new ending = (ending ≡ usage) × (new ≡ old)
 RunEnds (Some (Judge key evidence)) old new ending = JudgeEnds key evidence old new ending
 RunEnds (Some (Verify key text signature)) old new ending = VerifyEnds key text signature old new ending
 RunEnds (Some (Keygen seed height ots out)) old new ending = KeygenEnds seed height ots out old new ending

@@ -1,11 +1,11 @@
 //! The command `accept`.
-ghost use Rattle.std.specs.Prelude.{◌≡◌, ◌≢◌, ◌-◌, ℕ, List, length, take};
+ghost use Rattle.std.specs.Prelude.{◌≡◌, ◌≢◌, ◌≤◌, ◌-◌, ℕ, List, length, take};
 ghost use Rattle.cp_bytes.specs.Fields.{IsBytes};
 ghost use Rattle.cp_client.specs.View.{accepted_view};
 ghost use Rattle.cp_tool.specs.ClientInputs.{GivesAccepted, WritesEnds, three_view};
 ghost use Rattle.cp_tool.specs.ClientRuns.{AcceptEnds, acceptance_of};
 ghost use Rattle.cp_commands.specs.View.{accept_words_view};
-ghost use Rattle.cp_tool.specs.Runs.{Files};
+ghost use Rattle.cp_tool.specs.Runs.{files_of};
 ghost use Rattle.cp_endings.specs.View.{ending_view};
 
 use crate::judging::KEY_LIMIT;
@@ -57,10 +57,12 @@ fn put_accepted<'a, F: Folder>(
     words: &AcceptWords<'_>,
 ) -> Ending<'a>
     ensures ends { WritesEnds (accept_words_view words.now) envelope.now (accepted_view accepted.now)
-        (record { tells = F.tells files.old; file = F.file files.old; faults = F.faults files.old })
-        (record { tells = F.tells files.new; file = F.file files.new; faults = F.faults files.new }) (ending_view result) }
+        (files_of F.Folder files.old)
+        (files_of F.Folder files.new) (ending_view result) }
     ensures others { (name : List ℕ) → name ≢ words.now.out.now → name ≢ words.now.content.now → F.file files.new name ≡ F.file files.old name }
     ensures tells { F.tells files.new ≡ F.tells files.old }
+    ensures unread { F.read_faults files.new ≡ F.read_faults files.old }
+    ensures write_count { F.write_faults files.old ≤ F.write_faults files.new }
 {
     match files.write(words.out, envelope) {
         Ok(()) => match files.write(words.content, accepted.content) {
@@ -78,9 +80,11 @@ pub(crate) fn run_accept<'a, F: Folder>(
     words: AcceptWords<'a>,
 ) -> Ending<'a>
     ensures ends { AcceptEnds (accept_words_view words.entry)
-        (record { tells = F.tells files.old; file = F.file files.old; faults = F.faults files.old })
-        (record { tells = F.tells files.new; file = F.file files.new; faults = F.faults files.new }) (ending_view result) }
+        (files_of F.Folder files.old)
+        (files_of F.Folder files.new) (ending_view result) }
     ensures tells { F.tells files.new ≡ F.tells files.old }
+    ensures read_count { F.read_faults files.old ≤ F.read_faults files.new }
+    ensures write_count { F.write_faults files.old ≤ F.write_faults files.new }
 {
     let store = Input {
         name: words.store,

@@ -2,14 +2,14 @@
 ghost use Rattle.std.specs.Prelude.{◌≡◌, ◌≢◌, ◌+◌, ◌<◌, ◌≤◌, ℕ, List, Ok, false, MatchOption, IfSome, IsTrue, length};
 ghost use Rattle.sha2.specs.Sha256.{sha256};
 ghost use Rattle.lms_tree.specs.PublicKey.{key_reads};
-ghost use Rattle.lms_tree.specs.Secret.{leaves_of};
+ghost use Rattle.lms_tree.specs.Secret.{leaves_of, public_of};
 ghost use Rattle.cp_statements.specs.GetRequest.{get_request_text};
 ghost use Rattle.cp_statements.specs.View.{put_request_view};
 ghost use Rattle.cp_tool.specs.ClientInputs.{JudgesPut, three_view};
 ghost use Rattle.cp_tool.specs.ClientRuns.{AskGetEnds, get_request};
 ghost use Rattle.cp_commands.specs.View.{call_words_view, get_words_view, put_words_view};
 ghost use Rattle.cp_tool.specs.PutRuns.{AskPutEnds, LeafEnds};
-ghost use Rattle.cp_tool.specs.Runs.{Files, KeepsOthers, secret_in};
+ghost use Rattle.cp_tool.specs.Runs.{files_of, KeepsOthers, secret_in};
 ghost use Rattle.cp_endings.specs.View.{ending_view};
 
 use crate::drawing::{DrawnLeaf, draw_leaf};
@@ -102,11 +102,14 @@ fn put_asked<'a, F: Folder>(
 ) -> Ending<'a>
     requires hash { request.now.content ≡ sha256 content.now }
     requires one { (drawn.range.from ≡ drawn.leaf) × (drawn.range.to ≡ drawn.leaf + 1) × (drawn.leaf < leaves_of key.now) }
+    requires key { drawn.range.key ≡ sha256 (public_of key.now) }
     ensures ends { LeafEnds (record { secret = key.now; request = put_request_view request.now; content = content.now }) (Ok drawn.leaf) out.now
-        (record { tells = F.tells files.old; file = F.file files.old; faults = F.faults files.old })
-        (record { tells = F.tells files.new; file = F.file files.new; faults = F.faults files.new }) (ending_view result) }
+        (files_of F.Folder files.old)
+        (files_of F.Folder files.new) (ending_view result) }
     ensures others { (other : List ℕ) → other ≢ out.now → F.file files.new other ≡ F.file files.old other }
     ensures tells { F.tells files.new ≡ F.tells files.old }
+    ensures unread { F.read_faults files.new ≡ F.read_faults files.old }
+    ensures write_count { F.write_faults files.old ≤ F.write_faults files.new }
 {
     let DrawnLeaf { leaf, mut range } = drawn;
     let body = match ask_put(alloc, key, &mut range, request, content) {
@@ -128,9 +131,12 @@ pub(crate) fn run_ask_put<'a, R: Threads + Sync, F: Folder, K: Disk>(
     words: PutWords<'a>,
 ) -> Ending<'a>
     ensures ends { AskPutEnds K.Disk (put_words_view words.entry)
-        (record { tells = F.tells files.old; file = F.file files.old; faults = F.faults files.old })
-        (record { tells = F.tells files.new; file = F.file files.new; faults = F.faults files.new }) vault.old vault.new (ending_view result) }
+        (files_of F.Folder files.old)
+        (files_of F.Folder files.new) vault.old vault.new (ending_view result) }
     ensures tells { F.tells files.new ≡ F.tells files.old }
+    ensures read_count { F.read_faults files.old ≤ F.read_faults files.new }
+    ensures write_count { F.write_faults files.old ≤ F.write_faults files.new }
+    ensures vault_count { K.faults vault.old ≤ K.faults vault.new }
 {
     let seed = Input {
         name: words.seed,
@@ -190,9 +196,11 @@ pub(crate) fn run_ask_get<'a, F: Folder>(
     words: GetWords<'a>,
 ) -> Ending<'a>
     ensures ends { AskGetEnds (get_words_view words.entry)
-        (record { tells = F.tells files.old; file = F.file files.old; faults = F.faults files.old })
-        (record { tells = F.tells files.new; file = F.file files.new; faults = F.faults files.new }) (ending_view result) }
+        (files_of F.Folder files.old)
+        (files_of F.Folder files.new) (ending_view result) }
     ensures tells { F.tells files.new ≡ F.tells files.old }
+    ensures read_count { F.read_faults files.old ≤ F.read_faults files.new }
+    ensures write_count { F.write_faults files.old ≤ F.write_faults files.new }
 {
     let store = match input(alloc, files, words.store, KEY_LIMIT) {
         Ok(store) => store,

@@ -3,7 +3,7 @@ ghost use Rattle.std.specs.Prelude.{◌≡◌, ℕ, List};
 ghost use Rattle.cp_tool.specs.AuditInputs.{ReadsSource, ReadsSources};
 ghost use Rattle.cp_tool.specs.AuditRuns.{named, own, own_before};
 ghost use Rattle.cp_commands.specs.View.{audit_words_view};
-ghost use Rattle.cp_tool.specs.Folders.{Files};
+ghost use Rattle.cp_tool.specs.Folders.{files_of};
 
 use crate::inputs::input;
 use crate::judging::KEY_LIMIT;
@@ -47,8 +47,9 @@ fn named_file<'a, F: Folder>(
     name: &'a str,
     limit: u64,
 ) -> Result<Vec<u8>, Ending<'a>>
-    ensures reads { ReadsSource (F.tells files.old) (F.file files.old) (named name.entry.now limit) (F.faults files.old) (F.faults files.new) result }
+    ensures reads { ReadsSource (F.tells files.old) (F.file files.old) (named name.entry.now limit) (F.read_faults files.old) (F.read_faults files.new) result }
     ensures tells { F.tells files.new ≡ F.tells files.old }
+    ensures unwritten { F.write_faults files.new ≡ F.write_faults files.old }
     ensures kept { (other : List ℕ) → F.file files.new other ≡ F.file files.old other }
 {
     input(alloc, files, name, limit)
@@ -62,8 +63,9 @@ fn own_file<'a, F: Folder>(
     epoch: u64,
     limit: u64,
 ) -> Result<Vec<u8>, Ending<'a>>
-    ensures reads { ReadsSource (F.tells files.old) (F.file files.old) (own part epoch limit) (F.faults files.old) (F.faults files.new) result }
+    ensures reads { ReadsSource (F.tells files.old) (F.file files.old) (own part epoch limit) (F.read_faults files.old) (F.read_faults files.new) result }
     ensures tells { F.tells files.new ≡ F.tells files.old }
+    ensures unwritten { F.write_faults files.new ≡ F.write_faults files.old }
     ensures kept { (other : List ℕ) → F.file files.new other ≡ F.file files.old other }
 {
     let Ok(name) = part.name(alloc, epoch) else {
@@ -86,8 +88,9 @@ fn file_before<'a, F: Folder>(
     epoch: u64,
     limit: u64,
 ) -> Result<Vec<u8>, Ending<'a>>
-    ensures reads { ReadsSource (F.tells files.old) (F.file files.old) (own_before part epoch limit) (F.faults files.old) (F.faults files.new) result }
+    ensures reads { ReadsSource (F.tells files.old) (F.file files.old) (own_before part epoch limit) (F.read_faults files.old) (F.read_faults files.new) result }
     ensures tells { F.tells files.new ≡ F.tells files.old }
+    ensures unwritten { F.write_faults files.new ≡ F.write_faults files.old }
     ensures kept { (other : List ℕ) → F.file files.new other ≡ F.file files.old other }
 {
     if epoch <= 1 {
@@ -105,9 +108,10 @@ impl Sources {
         words: AuditWords<'a>,
     ) -> Result<Sources, Ending<'a>>
         ensures reads { ReadsSources (audit_words_view words.entry)
-            (record { tells = F.tells files.old; file = F.file files.old; faults = F.faults files.old })
-            (record { tells = F.tells files.new; file = F.file files.new; faults = F.faults files.new }) result }
+            (files_of F.Folder files.old)
+            (files_of F.Folder files.new) result }
         ensures tells { F.tells files.new ≡ F.tells files.old }
+        ensures unwritten { F.write_faults files.new ≡ F.write_faults files.old }
     {
         let epoch = words.epoch;
         let key = named_file(alloc, files, words.key, KEY_LIMIT)?;

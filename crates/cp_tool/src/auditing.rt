@@ -1,12 +1,12 @@
 //! The command `audit`.
-ghost use Rattle.std.specs.Prelude.{◌≡◌, Ok};
+ghost use Rattle.std.specs.Prelude.{◌≡◌, ◌≤◌, Ok};
 ghost use Rattle.cp_evidence.specs.Evidence as spec;
 ghost use Rattle.cp_evidence.specs.Evidence.{evidence_of};
 ghost use Rattle.cp_tool.specs.AuditAnswers.{Answers, WritesEvidence};
 ghost use Rattle.cp_tool.specs.AuditInputs.{sources_view};
 ghost use Rattle.cp_tool.specs.AuditRuns.{AuditEnds};
 ghost use Rattle.cp_commands.specs.View.{audit_words_view};
-ghost use Rattle.cp_tool.specs.Folders.{Files};
+ghost use Rattle.cp_tool.specs.Folders.{files_of};
 ghost use Rattle.cp_endings.specs.View.{ending_view};
 
 use crate::audit_sources::Sources;
@@ -48,9 +48,11 @@ fn verdict<'a>(alloc: Global, sources: &Sources, epoch: u64) -> Result<Verdict, 
 // Writes the evidence, which spells what is named.
 fn write_evidence<'a, F: Folder>(files: &mut F, out: &'a str, evidence: &[u8]) -> Ending<'a>
     ensures writes { (e : spec.Evidence) → evidence_of evidence.now ≡ Ok e → WritesEvidence e evidence.now out.entry.now
-        (record { tells = F.tells files.old; file = F.file files.old; faults = F.faults files.old })
-        (record { tells = F.tells files.new; file = F.file files.new; faults = F.faults files.new }) (ending_view result) }
+        (files_of F.Folder files.old)
+        (files_of F.Folder files.new) (ending_view result) }
     ensures tells { F.tells files.new ≡ F.tells files.old }
+    ensures unread { F.read_faults files.new ≡ F.read_faults files.old }
+    ensures write_count { F.write_faults files.old ≤ F.write_faults files.new }
 {
     let Ok(read) = Evidence::read(evidence) else {
         return Ending::NoMemory;
@@ -70,9 +72,11 @@ pub(crate) fn run_audit<'a, F: Folder>(
     words: AuditWords<'a>,
 ) -> Ending<'a>
     ensures ends { AuditEnds (audit_words_view words.entry)
-        (record { tells = F.tells files.old; file = F.file files.old; faults = F.faults files.old })
-        (record { tells = F.tells files.new; file = F.file files.new; faults = F.faults files.new }) (ending_view result) }
+        (files_of F.Folder files.old)
+        (files_of F.Folder files.new) (ending_view result) }
     ensures tells { F.tells files.new ≡ F.tells files.old }
+    ensures read_count { F.read_faults files.old ≤ F.read_faults files.new }
+    ensures write_count { F.write_faults files.old ≤ F.write_faults files.new }
 {
     let sources = match Sources::read(alloc, files, words) {
         Ok(sources) => sources,

@@ -1,8 +1,9 @@
 //! The files that a replay writes.
-ghost use Rattle.std.specs.Prelude.{◌≡◌, ◌++◌, ◌∷◌, ◌+◌, ◌<◌, ◌^◌, [], IfOk, OnOk, map, length, string_bytes};
+ghost use Rattle.std.specs.Prelude.{◌≡◌, ◌≢◌, ◌≤◌, ℕ, List, ◌++◌, ◌∷◌, ◌+◌, ◌<◌, ◌^◌, [], IfOk, OnOk, map, length, string_bytes};
+ghost use Rattle.std.specs.List.{AllByRecursion};
 ghost use Rattle.cp_replay.specs.View.{outcome_view};
 ghost use Rattle.cp_endings.specs.EpochFiles.{epoch_file};
-ghost use Rattle.cp_tool.specs.Folders.{Files};
+ghost use Rattle.cp_tool.specs.Folders.{files_of};
 ghost use Rattle.cp_tool.specs.ReplayFiles.{epoch_writes, epochs_writes, write_of, writes_of};
 ghost use Rattle.cp_tool.specs.ReplayInputs.{WritesFiles};
 ghost use Rattle.cp_tool.specs.ReplayView.{write_view};
@@ -128,9 +129,13 @@ impl<'a> FileWrite<'a> {
 #[tactic(auto, using(crate::proofs::WriteLemmas::each_write))]
 pub(crate) fn write_files<F: Folder>(files: &mut F, writes: &[FileWrite<'_>]) -> Result<(), Failed>
     ensures writes { WritesFiles (map write_view writes.now)
-        (record { tells = F.tells files.old; file = F.file files.old; faults = F.faults files.old })
-        (record { tells = F.tells files.new; file = F.file files.new; faults = F.faults files.new }) result }
+        (files_of F.Folder files.old)
+        (files_of F.Folder files.new) result }
     ensures tells { F.tells files.new ≡ F.tells files.old }
+    ensures unread { F.read_faults files.new ≡ F.read_faults files.old }
+    ensures write_count { F.write_faults files.old ≤ F.write_faults files.new }
+    ensures others { (name : List ℕ) → AllByRecursion (λ w. name ≢ w.name) (map write_view writes.now)
+        → F.file files.new name ≡ F.file files.old name }
 {
     for write in writes {
         match files.write(write.name.as_str(), write.bytes) {

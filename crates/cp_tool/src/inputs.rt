@@ -13,8 +13,9 @@ pub(crate) fn input<'a, F: Folder>(
     name: &'a str,
     limit: u64,
 ) -> Result<Vec<u8>, Ending<'a>>
-    ensures reads { ReadsInput (F.tells files.old) (F.file files.old name.entry.now) name.entry.now limit (F.faults files.old) (F.faults files.new) result }
+    ensures reads { ReadsInput (F.tells files.old) (F.file files.old name.entry.now) name.entry.now limit (F.read_faults files.old) (F.read_faults files.new) result }
     ensures tells { F.tells files.new ≡ F.tells files.old }
+    ensures unwritten { F.write_faults files.new ≡ F.write_faults files.old }
     ensures kept { (other : List ℕ) → F.file files.new other ≡ F.file files.old other }
 {
     match read_whole(alloc, files, name, limit) {

@@ -2,7 +2,7 @@
 ghost use Rattle.std.specs.Prelude.{◌≡◌, ◌+◌, ◌<◌, ◌≤◌, ℕ, List, take, drop, length};
 ghost use Rattle.lms_tree.specs.Secret.{public_of};
 ghost use Rattle.cp_tool.specs.Inputs.{MakesKey};
-ghost use Rattle.cp_tool.specs.Runs.{KeygenEnds, Files, secret_in};
+ghost use Rattle.cp_tool.specs.Runs.{KeygenEnds, files_of, secret_in};
 ghost use Rattle.cp_endings.specs.View.{ending_view};
 
 use crate::inputs::input;
@@ -81,9 +81,11 @@ pub(crate) fn run_keygen<'a, R: Threads + Sync, F: Folder>(
     out: &'a str,
 ) -> Ending<'a>
     ensures ends { KeygenEnds seed.entry.now height ots out.entry.now
-        (record { tells = F.tells files.old; file = F.file files.old; faults = F.faults files.old })
-        (record { tells = F.tells files.new; file = F.file files.new; faults = F.faults files.new }) (ending_view result) }
+        (files_of F.Folder files.old)
+        (files_of F.Folder files.new) (ending_view result) }
     ensures tells { F.tells files.new ≡ F.tells files.old }
+    ensures read_count { F.read_faults files.old ≤ F.read_faults files.new }
+    ensures write_count { F.write_faults files.old ≤ F.write_faults files.new }
 {
     let seed = match input(alloc, files, seed, SEED_LENGTH) {
         Ok(seed) => seed,

@@ -1,6 +1,7 @@
 //! The command `replay`.
 ghost use Rattle.std.specs.Prelude.{◌≡◌, ◌≤◌, ℕ, List, length};
-ghost use Rattle.cp_tool.specs.Folders.{Files};
+ghost use Rattle.cp_tool.specs.Folders.{files_of};
+ghost use Rattle.cp_tool.specs.ReplayFiles.{IsReplayFile};
 ghost use Rattle.cp_tool.specs.ReplayInputs.{GivesReplay, MakesReplay, WritesReplay};
 ghost use Rattle.cp_tool.specs.ReplayRuns.{ReplayEnds};
 ghost use Rattle.cp_commands.specs.View.{replay_words_view};
@@ -9,10 +10,10 @@ ghost use Rattle.cp_endings.specs.View.{ending_view};
 use crate::file_write::{FileWrite, write_files};
 use crate::inputs::input;
 use crate::keygen::{SEED_LENGTH, part};
-use cp_commands::ReplayWords;
+use cp_commands::{By, ReplayWords};
 use cp_endings::Ending;
 use cp_outside::Folder;
-use cp_replay::{Replayed, Script, ScriptRefusal, replay};
+use cp_replay::{By as ServedBy, Replayed, Script, ScriptRefusal, replay};
 use std::alloc::Global;
 
 /// The most bytes of a script: 1 MiB.
@@ -37,13 +38,17 @@ fn replayed<'a>(
         Err(ScriptRefusal::OutOfMemory) => return Err(Ending::NoMemory),
     };
     let seed = part::<48>(seed, 0);
+    let by = match words.by {
+        By::Core => ServedBy::Core,
+        By::Shards => ServedBy::Shards,
+    };
     match replay(
         alloc,
         words.height,
         words.ots,
         &seed,
         words.pages,
-        words.by,
+        by,
         &script,
     ) {
         Ok(done) => Ok(done),
@@ -58,10 +63,11 @@ fn made<'a, F: Folder>(
     words: &ReplayWords<'a>,
 ) -> Result<Replayed, Ending<'a>>
     ensures made { MakesReplay (replay_words_view words.now)
-        (record { tells = F.tells files.old; file = F.file files.old; faults = F.faults files.old })
-        (record { tells = F.tells files.new; file = F.file files.new; faults = F.faults files.new }) result }
+        (files_of F.Folder files.old)
+        (files_of F.Folder files.new) result }
     ensures tells { F.tells files.new ≡ F.tells files.old }
-    ensures later { F.faults files.old ≤ F.faults files.new }
+    ensures read_count { F.read_faults files.old ≤ F.read_faults files.new }
+    ensures unwritten { F.write_faults files.new ≡ F.write_faults files.old }
     ensures kept { (other : List ℕ) → F.file files.new other ≡ F.file files.old other }
 {
     let seed = match input(alloc, files, words.seed, SEED_LENGTH) {
@@ -82,9 +88,12 @@ fn write_replay<'a, F: Folder>(
     done: &Replayed,
 ) -> Result<(), Ending<'a>>
     ensures writes { WritesReplay done.now
-        (record { tells = F.tells files.old; file = F.file files.old; faults = F.faults files.old })
-        (record { tells = F.tells files.new; file = F.file files.new; faults = F.faults files.new }) result }
+        (files_of F.Folder files.old)
+        (files_of F.Folder files.new) result }
     ensures tells { F.tells files.new ≡ F.tells files.old }
+    ensures unread { F.read_faults files.new ≡ F.read_faults files.old }
+    ensures write_count { F.write_faults files.old ≤ F.write_faults files.new }
+    ensures others { (name : List ℕ) → ¬ IsReplayFile name → F.file files.new name ≡ F.file files.old name }
 {
     let Ok(writes) = FileWrite::all(alloc, done) else {
         return Err(Ending::NoMemory);
@@ -102,9 +111,11 @@ pub(crate) fn run_replay<'a, F: Folder>(
     words: ReplayWords<'a>,
 ) -> Ending<'a>
     ensures ends { ReplayEnds (replay_words_view words.entry)
-        (record { tells = F.tells files.old; file = F.file files.old; faults = F.faults files.old })
-        (record { tells = F.tells files.new; file = F.file files.new; faults = F.faults files.new }) (ending_view result) }
+        (files_of F.Folder files.old)
+        (files_of F.Folder files.new) (ending_view result) }
     ensures tells { F.tells files.new ≡ F.tells files.old }
+    ensures read_count { F.read_faults files.old ≤ F.read_faults files.new }
+    ensures write_count { F.write_faults files.old ≤ F.write_faults files.new }
 {
     let done = match made(alloc, files, &words) {
         Ok(done) => done,

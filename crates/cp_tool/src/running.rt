@@ -1,15 +1,17 @@
 //! The commands of the program, over any folder, vault's disk and sink.
-ghost use Rattle.std.specs.Prelude.{◌≡◌, ◌⊎◌, ◌≤◌, ℕ, List, Some, None, Ok, map, string_bytes, length, IsTrue};
+ghost use Rattle.std.specs.Prelude.{◌≡◌, ◌≢◌, ◌⊎◌, ◌≤◌, ℕ, List, Some, None, map, string_bytes, length, IsTrue};
 ghost use Rattle.cp_outside.specs.Causes.{Rose};
-ghost use Rattle.cp_tool.specs.AuditRuns.{Sources, files_in, sources_of};
-ghost use Rattle.cp_tool.specs.AuditStatus.{AuditStatus};
+ghost use Rattle.cp_tool.specs.AuditRuns.{files_in, sources_of};
+ghost use Rattle.cp_tool.specs.AuditStatus.{StatusOfFiles};
 ghost use Rattle.cp_commands.specs.AuditWords.{AuditWords};
 ghost use Rattle.cp_commands.specs.Commands.{command_of};
-ghost use Rattle.cp_commands.specs.Commands.Command.{Audit, Judge};
+ghost use Rattle.cp_commands.specs.Commands.Command.{Audit, Judge, Verify};
 ghost use Rattle.cp_endings.specs.Endings.{Outcome};
 ghost use Rattle.cp_tool.specs.PutRuns.{CommandEnds, IsAskPut};
 ghost use Rattle.cp_endings.specs.Reports.{Reports};
-ghost use Rattle.cp_tool.specs.Runs.{Files, JudgeStatus};
+ghost use Rattle.cp_tool.specs.Outputs.{IsOutput};
+ghost use Rattle.cp_tool.specs.Folders.{files_of};
+ghost use Rattle.cp_tool.specs.Statuses.{JudgeStatus, VerifyStatus};
 ghost use Rattle.cp_endings.specs.View.{ending_view};
 
 use crate::accepting::run_accept;
@@ -34,9 +36,11 @@ fn done<'a, R: Threads + Sync, F: Folder, K: Disk>(
     vault: &mut K,
 ) -> Ending<'a>
     ensures ends { CommandEnds K.Disk (command_of (map string_bytes words.entry.now))
-        (record { tells = F.tells files.old; file = F.file files.old; faults = F.faults files.old })
-        (record { tells = F.tells files.new; file = F.file files.new; faults = F.faults files.new }) vault.old vault.new (ending_view result) }
+        (files_of F.Folder files.old) (files_of F.Folder files.new) vault.old vault.new (ending_view result) }
     ensures tells { F.tells files.new ≡ F.tells files.old }
+    ensures read_count { F.read_faults files.old ≤ F.read_faults files.new }
+    ensures write_count { F.write_faults files.old ≤ F.write_faults files.new }
+    ensures vault_count { K.faults vault.old ≤ K.faults vault.new }
 {
     match Command::read(words) {
         None => Ending::Usage,
@@ -80,8 +84,7 @@ pub fn run<R: Threads + Sync, F: Folder, K: Disk, S: Sink>(
 ) -> u8
     // How the command ended, its printed line, and its status.
     ensures ends { (ending : Outcome) × CommandEnds K.Disk (command_of (map string_bytes words.now))
-        (record { tells = F.tells files.old; file = F.file files.old; faults = F.faults files.old })
-        (record { tells = F.tells files.new; file = F.file files.new; faults = F.faults files.new }) vault.old vault.new ending
+        (files_of F.Folder files.old) (files_of F.Folder files.new) vault.old vault.new ending
         × Reports (S.held out.old) (S.held out.new) (S.write_faults out.old) (S.write_faults out.new) ending result }
 
     // 2 comes exactly where the words are no command's, unless the line can't be written.
@@ -96,22 +99,50 @@ pub fn run<R: Threads + Sync, F: Folder, K: Disk, S: Sink>(
     ensures untouched { IsAskPut (command_of (map string_bytes words.now)) ⊎ (vault.new ≡ vault.old) }
 
     // `judge` over files that are told and within their limits: 0 comes exactly where the evidence
-    // convicts, and 1 only where the key reads and it doesn't.
-    ensures judge { (key evidence key_bytes evidence_bytes : List ℕ) → command_of (map string_bytes words.now) ≡ Some (Judge key evidence) → IsTrue (F.tells files.old)
+    // convicts, 1 exactly where the key reads and it doesn't, and 3 exactly where the key doesn't read.
+    ensures judge { (key evidence key_bytes evidence_bytes : List ℕ)
+        → command_of (map string_bytes words.now) ≡ Some (Judge key evidence) → IsTrue (F.tells files.old)
         → F.file files.old key ≡ Some key_bytes → length key_bytes ≤ 56
         → F.file files.old evidence ≡ Some evidence_bytes → length evidence_bytes ≤ 536870912
         → JudgeStatus key_bytes evidence_bytes result }
 
-    // `audit` over files that are told and within their limits: 0 comes exactly where the material is
-    // given, the hand-ins read and the epoch is clean, as it is of an honest store, and 1 exactly where
-    // they are given and read and it isn't; then the evidence that was written convicts, and `judge`
-    // takes it, by its length.
-    ensures audit { (wanted : AuditWords) (sources : Sources) → command_of (map string_bytes words.now) ≡ Some (Audit wanted) → IsTrue (F.tells files.old)
-        → sources_of wanted (files_in (F.file files.old) wanted) ≡ Ok sources
-        → AuditStatus sources (F.file files.new wanted.out) result }
+    // `verify` over files that are told and within their limits: 0 comes exactly where the signature
+    // verifies, 1 exactly where the key reads and it doesn't, and 3 exactly where the key doesn't read.
+    ensures verify { (key text signature key_bytes text_bytes signature_bytes : List ℕ)
+        → command_of (map string_bytes words.now) ≡ Some (Verify key text signature) → IsTrue (F.tells files.old)
+        → F.file files.old key ≡ Some key_bytes → length key_bytes ≤ 56
+        → F.file files.old text ≡ Some text_bytes → length text_bytes ≤ 1048576
+        → F.file files.old signature ≡ Some signature_bytes → length signature_bytes ≤ 16384
+        → VerifyStatus key_bytes text_bytes signature_bytes result }
+
+    // `audit` over files that are told: 0 comes exactly where the material is given, the hand-ins read and
+    // the epoch is clean, as it is of an honest store, 1 exactly where they are given and read and it isn't,
+    // and 3 exactly where a file isn't there or is over its limit, or they aren't given or don't read. With
+    // 1 the evidence that was written convicts, and `judge` takes it, by its length.
+    ensures audit { (wanted : AuditWords) → command_of (map string_bytes words.now) ≡ Some (Audit wanted)
+        → IsTrue (F.tells files.old)
+        → StatusOfFiles (sources_of wanted (files_in (F.file files.old) wanted)) (F.file files.new wanted.out) result }
 
     // 4 comes only where a count rose.
-    ensures fault { result ≡ 4 → Rose (F.faults files.old) (F.faults files.new) ⊎ Rose (K.faults vault.old) (K.faults vault.new) ⊎ Rose (S.write_faults out.old) (S.write_faults out.new) }
+    ensures fault { result ≡ 4 → Rose (F.read_faults files.old) (F.read_faults files.new)
+        ⊎ Rose (F.write_faults files.old) (F.write_faults files.new)
+        ⊎ Rose (K.faults vault.old) (K.faults vault.new)
+        ⊎ Rose (S.write_faults out.old) (S.write_faults out.new) }
+
+    // No count falls: of the folder's failed reads and failed writes, of the disk's and of the sink's.
+    ensures read_count { F.read_faults files.old ≤ F.read_faults files.new }
+    ensures write_count { F.write_faults files.old ≤ F.write_faults files.new }
+    ensures vault_count { K.faults vault.old ≤ K.faults vault.new }
+    ensures sink_count { S.write_faults out.old ≤ S.write_faults out.new }
+
+    // Where a read failed the status is 4, no leaf was taken and no file was written: the disk and all
+    // files are as before.
+    ensures failed_read { F.read_faults files.new ≢ F.read_faults files.old
+        → (result ≡ 4) × (vault.new ≡ vault.old) × ((name : List ℕ) → F.file files.new name ≡ F.file files.old name) }
+
+    // Only a command's outputs change: the files that its words name for what it writes, or a replay's.
+    ensures only_outputs { (name : List ℕ) → ¬ IsOutput (command_of (map string_bytes words.now)) name
+        → F.file files.new name ≡ F.file files.old name }
 {
     let ending = done(rt, alloc, words, files, vault);
     report(out, &ending)

@@ -1,6 +1,7 @@
 //! Reading three input files, one after another.
 ghost use Rattle.std.specs.Prelude.{◌≡◌, ℕ, List};
 ghost use Rattle.cp_tool.specs.ClientInputs.{ReadsThree, input_view};
+ghost use Rattle.cp_tool.specs.Folders.{files_of};
 
 use crate::inputs::input;
 use cp_endings::Ending;
@@ -31,9 +32,10 @@ pub(crate) fn three_inputs<'a, F: Folder>(
     third: Input<'a>,
 ) -> Result<ThreeFiles, Ending<'a>>
     ensures reads { ReadsThree (input_view first.entry) (input_view second.entry) (input_view third.entry)
-        (record { tells = F.tells files.old; file = F.file files.old; faults = F.faults files.old })
-        (record { tells = F.tells files.new; file = F.file files.new; faults = F.faults files.new }) result }
+        (files_of F.Folder files.old)
+        (files_of F.Folder files.new) result }
     ensures tells { F.tells files.new ≡ F.tells files.old }
+    ensures unwritten { F.write_faults files.new ≡ F.write_faults files.old }
     ensures kept { (other : List ℕ) → F.file files.new other ≡ F.file files.old other }
 {
     let first = match input(alloc, files, first.name, first.limit) {

@@ -1,6 +1,6 @@
 //! The command `verify`.
-ghost use Rattle.std.specs.Prelude.{◌≡◌};
-ghost use Rattle.cp_tool.specs.Runs.{VerifyEnds, Files, verified};
+ghost use Rattle.std.specs.Prelude.{◌≡◌, ◌≤◌};
+ghost use Rattle.cp_tool.specs.Runs.{VerifyEnds, files_of, verified};
 ghost use Rattle.cp_endings.specs.View.{ending_view};
 
 use crate::inputs::input;
@@ -39,9 +39,11 @@ pub(crate) fn run_verify<'a, F: Folder>(
     signature: &'a str,
 ) -> Ending<'a>
     ensures ends { VerifyEnds key.entry.now text.entry.now signature.entry.now
-        (record { tells = F.tells files.old; file = F.file files.old; faults = F.faults files.old })
-        (record { tells = F.tells files.new; file = F.file files.new; faults = F.faults files.new }) (ending_view result) }
+        (files_of F.Folder files.old)
+        (files_of F.Folder files.new) (ending_view result) }
     ensures tells { F.tells files.new ≡ F.tells files.old }
+    ensures read_count { F.read_faults files.old ≤ F.read_faults files.new }
+    ensures unwritten { F.write_faults files.new ≡ F.write_faults files.old }
 {
     let key = match input(alloc, files, key, KEY_LIMIT) {
         Ok(key) => key,

@@ -67,6 +67,7 @@ module _ {K : Type 0} (g : disk.Ghosts K) where
   -- A reservation of n leaves hands out the next n and then has the new number for good. At any moment a crash leaves this key's file with the old number or the new one.
   pub record Reserves (id : List ℕ) (leaves number n : ℕ) (old new : K) (answer : Result Range VaultFault) : Type 0 where
     pub range : IfOk answer (λ r. (r.from ≡ number) × (r.to ≡ number + n))
+    pub owner : IfOk answer (λ r. r.key ≡ id)
     pub over : RefusesOver leaves number n answer
     pub untouched : OnOver answer (new ≡ old)
     pub file : IsTrue (g.tells old) → OnOk answer (g.seen new ≡ advanced (g.seen old) id (number + n))

@@ -1,8 +1,9 @@
 -- The leaves of a range.
-use Rattle.std.specs.Prelude.{ℕ, ◌≤◌, ◌<◌}
+use Rattle.std.specs.Prelude.{ℕ, ◌≤◌, ◌<◌, List}
 
--- the leaves from one number on and below another
+-- the leaves of the key with this id, from one number on and below another
 pub record Range : Type 0 where
+  pub key : List ℕ
   pub from : ℕ
   pub to : ℕ
 

@@ -8,14 +8,11 @@ use crate::slots::{FILE, GATE, both_slots, next_number, opened, other_slot, slot
 use crate::writes::write_in_order;
 use cp_outside::Disk;
 
-/// A key's file on a disk, as it was read or written last: the key's id and its number of leaves,
-/// how many leaves are reserved, and which slot is current. It does not hold its disk, so that a
-/// caller knows what the disk is after each call, also after one that failed; `Vault` is the same
-/// together with the disk. Nor does it borrow it, so its caller must not load one disk twice: over a
-/// disk that tells nothing the condition of `reserve` holds of a file that is out of date too, which
-/// would hand out its leaves again.
+// A key's file on a disk, as it was read or written last: the key's id and its number of leaves, how
+// many leaves are reserved, and which slot is current. It does not borrow its disk, so whoever loaded
+// one disk twice could reserve its leaves twice: only `Vault` has one, together with the disk.
 #[derive(Drop)]
-pub struct VaultFile {
+pub(crate) struct VaultFile {
     id: [u8; 32],
     leaves: u64,
     reserved: u64,
@@ -25,13 +22,17 @@ pub struct VaultFile {
 impl VaultFile {
     ghost use Rattle.key_vault.specs.Vaults.{file_id, file_leaves, file_number, file_gate};
 
-    /// Opens the file of the key with this id and so many leaves. It begins with a sync, so that what
-    /// it reads stays. Refusals, in this order:
-    /// - `DiskFault`: the disk failed in this call;
-    /// - `Blank`: the file has fewer than 129 bytes;
-    /// - `OtherKey`: its current slot names another id;
-    /// - `Damaged`: its number is above `leaves`.
-    pub fn load<K: Disk>(disk: &mut K, id: [u8; 32], leaves: u64) -> Result<VaultFile, LoadFault>
+    // Opens the file of the key with this id and so many leaves. It begins with a sync, so that what
+    // it reads stays. Refusals, in this order:
+    // - `DiskFault`: the disk failed in this call;
+    // - `Blank`: the file has fewer than 129 bytes;
+    // - `OtherKey`: its current slot names another id;
+    // - `Damaged`: its number is above `leaves`.
+    pub(crate) fn load<K: Disk>(
+        disk: &mut K,
+        id: [u8; 32],
+        leaves: u64,
+    ) -> Result<VaultFile, LoadFault>
         ensures loads { MatchResult result
             (λ file. Loads K.Disk id leaves disk.old disk.new (Ok (file_number file)))
             (λ fault. Loads K.Disk id leaves disk.old disk.new (Err fault)) }
@@ -54,9 +55,13 @@ impl VaultFile {
         }
     }
 
-    /// Makes the file of a key where the disk holds a blank one: both slots with no leaf reserved,
-    /// and then the gate byte. `DiskFault`: the disk failed in this call.
-    pub fn format<K: Disk>(disk: &mut K, id: [u8; 32], leaves: u64) -> Result<VaultFile, DiskFault>
+    // Makes the file of a key where the disk holds a blank one: both slots with no leaf reserved,
+    // and then the gate byte. `DiskFault`: the disk failed in this call.
+    pub(crate) fn format<K: Disk>(
+        disk: &mut K,
+        id: [u8; 32],
+        leaves: u64,
+    ) -> Result<VaultFile, DiskFault>
         requires { IsTrue (K.tells disk.old) → length (K.seen disk.old) < 129 }
         ensures formats { Formats K.Disk id disk.old disk.new result }
         ensures key { IfOk result (λ file. (file_id file ≡ id) × (file_leaves file ≡ leaves)) }
@@ -75,19 +80,19 @@ impl VaultFile {
         }
     }
 
-    /// How many leaves are reserved: all below this number.
-    pub fn reserved(&self) -> u64
+    // How many leaves are reserved: all below this number.
+    pub(crate) fn reserved(&self) -> u64
         ensures { result ≡ file_number self.now }
     {
         self.reserved
     }
 
-    /// Reserves the next `n` leaves, at least one, on the disk that holds the file: writes the slot
-    /// that is not current, syncs, makes it current, syncs, and only then hands them out. Refusals,
-    /// in this order, after which the file is to be loaded again:
-    /// - `Over`: fewer leaves are left, and the disk is not touched;
-    /// - `DiskFault`: the disk failed in this call.
-    pub fn reserve<K: Disk>(
+    // Reserves the next `n` leaves, at least one, on the disk that holds the file: writes the slot
+    // that is not current, syncs, makes it current, syncs, and only then hands them out. Refusals,
+    // in this order, after which the file is to be loaded again:
+    // - `Over`: fewer leaves are left, and the disk is not touched;
+    // - `DiskFault`: the disk failed in this call.
+    pub(crate) fn reserve<K: Disk>(
         self,
         disk: &mut K,
         n: u64,
@@ -113,7 +118,7 @@ impl VaultFile {
         let bytes = slot(&self.id, next);
         match write_in_order(disk, 64 * other, &bytes, GATE, &[other as u8]) {
             Ok(()) => {
-                let range = LeafRange::new(self.reserved, next);
+                let range = LeafRange::new(self.id, self.reserved, next);
                 let file = VaultFile {
                     id: self.id,
                     leaves: self.leaves,

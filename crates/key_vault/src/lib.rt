@@ -12,7 +12,6 @@ mod vault;
 mod writes;
 
 pub use faults::{DiskFault, LoadFault, Refused, VaultFault};
-pub use file::VaultFile;
 pub use law::ranges_are_disjoint;
 pub use range::LeafRange;
 pub use vault::Vault;

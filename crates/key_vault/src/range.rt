@@ -3,10 +3,11 @@ ghost use Rattle.std.specs.Prelude.{◌≡◌, ◌+◌, ◌<◌, ◌≤◌, ◌�
 
 use std::marker::Model;
 
-/// Leaves of a key that were reserved and not yet taken, from the least one on. Only
-/// `VaultFile::reserve` makes one, for itself and for `Vault::reserve`.
+/// Leaves of a key that were reserved and not yet taken, from the least one on. It has the id of its
+/// key, as the vault that it is of. Only `Vault::reserve` hands one out.
 #[derive(Drop)]
 pub struct LeafRange {
+    key: [u8; 32],
     next: u64,
     end: u64,
 }
@@ -16,15 +17,16 @@ impl Model for LeafRange {
 
     ghost Value = { Range };
 
-    ghost view = { λ a. record { from = a.next; to = a.end } };
+    ghost view = { λ a. record { key = a.key; from = a.next; to = a.end } };
 }
 
 impl LeafRange {
-    // The leaves from `from` on and below `to`.
-    pub(crate) fn new(from: u64, to: u64) -> LeafRange
-        ensures { result ≡ record { from = from; to = to } }
+    // The leaves of the key with this id, from `from` on and below `to`.
+    pub(crate) fn new(key: [u8; 32], from: u64, to: u64) -> LeafRange
+        ensures { result ≡ record { key = key; from = from; to = to } }
     {
         LeafRange {
+            key,
             next: from,
             end: to,
         }

@@ -68,6 +68,15 @@ impl<'a, K: Disk> Vault<'a, K> {
         }
     }
 
+    /// The disk, given back as it is.
+    pub fn into_disk(self) -> &'a mut K
+        ensures same_disk { result.ghost_name ≡ disk_name self.entry }
+        ensures kept { result.now ≡ disk_of self.entry }
+    {
+        let Vault { disk, file: _ } = self;
+        disk
+    }
+
     /// How many leaves are reserved: all below this number.
     pub fn reserved(&self) -> u64
         ensures { result ≡ vault_number self.now }

@@ -1,6 +1,6 @@
 //! Making a vault, and reserving leaves one by one.
 use cp_outside::Disk;
-use key_vault::{LoadFault, Vault, VaultFile};
+use key_vault::{LoadFault, Refused, Vault};
 
 const ID: [u8; 32] = [7; 32];
 
@@ -9,7 +9,13 @@ const LEAVES: u64 = 1 << 40;
 
 /// The vault of a key on a blank disk. Nothing where the disk holds more, or fails.
 pub fn format_blank<K: Disk>(disk: &mut K) -> Option<Vault<'_, K>> {
-    let Err(LoadFault::Blank { .. }) = VaultFile::load(disk, ID, LEAVES) else {
+    let Err(
+        Refused {
+            disk,
+            why: LoadFault::Blank { .. },
+        },
+    ) = Vault::load(disk, ID, LEAVES)
+    else {
         return None;
     };
     match Vault::format(disk, ID, LEAVES) {

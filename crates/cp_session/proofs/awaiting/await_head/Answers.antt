@@ -1,4 +1,4 @@
-use Rattle.std.proofs.Common.{◌≡◌, ◌∙◌, ◌<◌, ◌≤◌, ◌-◌, ap, subst, arith, length, List, ℕ}
+use Rattle.std.proofs.Common.{◌≡◌, ◌∙◌, ◌<◌, ◌-◌, ap, subst, arith, length, List, ℕ}
 use Rattle.cp_http.specs.Heads.{HasNoBreak, window}
 use Rattle.cp_session.proofs.TrafficLemmas.{grows_more}
 use Rattle.cp_session.proofs.FrontLemmas.{none_below, below_within}

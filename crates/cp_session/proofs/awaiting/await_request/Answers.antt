@@ -1,4 +1,4 @@
-use Rattle.std.proofs.Common.{◌≡◌, ◌∙◌, ap, Ok}
+use Rattle.std.proofs.Common.{◌∙◌, ap, Ok}
 use Rattle.cp_session.proofs.FrontLemmas.{request_small, unfinished_is, whole_is}
 use Rattle.cp_session.proofs.awaiting.await_request.Goals as goal
 

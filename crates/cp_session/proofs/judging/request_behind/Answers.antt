@@ -1,4 +1,4 @@
-use Rattle.std.proofs.Common.{◌≡◌, ◌+◌, ◌≤◌, ℕ, arith}
+use Rattle.std.proofs.Common.{arith}
 use Rattle.cp_http.specs.Reading.{head_content}
 use Rattle.cp_session.proofs.FrontLemmas.{head_small, rejected_is}
 use Rattle.cp_session.proofs.judging.request_behind.Goals as goal

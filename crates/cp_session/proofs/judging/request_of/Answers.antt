@@ -1,4 +1,4 @@
-use Rattle.std.proofs.Common.{◌≡◌, ◌+◌, ◌≤◌, ℕ, arith, sym, length-take-le}
+use Rattle.std.proofs.Common.{arith, sym, length-take-le}
 use Rattle.cp_http.specs.Reading.{head_content}
 use Rattle.cp_session.proofs.FrontLemmas.{end_holds, end_some, head_is, bad_is}
 use Rattle.cp_session.proofs.judging.request_of.Goals as goal

@@ -1,4 +1,4 @@
-use Rattle.std.proofs.Common.{◌≡◌, ◌<◌, ◌≤◌, ℕ, List, length, ◌+◌, ◌-◌, ◌*◌}
+use Rattle.std.proofs.Common.{◌<◌, ◌≤◌, ◌-◌, ◌*◌}
 use Rattle.cp_session.proofs.TalkLemmas.{Talk}
 use Rattle.cp_session.proofs.serving.serve_connection.Given as goal
 

@@ -7,6 +7,7 @@ use Rattle.key_vault.proofs.file.VaultFile.reserve.Goals as goal
 pub returns-in-Err-clause-reserves : goal.returns-in-Err-clause-reserves
 returns-in-Err-clause-reserves g c = record {
   range = tt;
+  owner = tt;
   over = omega (arith, c.in-Some.ensures.0, c.in-Some.ensures.1);
   untouched = tt;
   file = λ told. tt;
@@ -22,6 +23,7 @@ returns-in-Err-clause-reserves g c = record {
 pub returns-in-Ok-clause-reserves : goal.returns-in-Ok-clause-reserves
 returns-in-Ok-clause-reserves g c = record {
   range = (ap (λ (r : Range). r.from) c.new-range.ensures, ap (λ (r : Range). r.to) c.new-range.ensures ∙ c.in-Some.ensures.0);
+  owner = ap (λ (r : Range). r.key) c.new-range.ensures;
   over = omega (arith, c.in-Some.ensures.0, c.in-Some.ensures.1);
   untouched = tt;
   file = λ told. reserve_file g.K.Disk c.args.self.id c.slot-bytes.result c.args.self.reserved c.args.n c.in-Some.next c.args.self.gate c.other_slot-other.result c.args.disk.now c.write_in_order.new.disk
