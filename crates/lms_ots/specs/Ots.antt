@@ -40,19 +40,31 @@ d_pblc = 0x8080
 abbrev pub d_mesg : ℕ
 d_mesg = 0x8181
 
--- Q, the hash of a text with the randomizer C (4.5, algorithm 3, step 5)
-unfoldable pub message_hash : List ℕ → ℕ → List ℕ → List ℕ → List ℕ
-message_hash id q randomizer text = sha256 (tagged id q d_mesg ++ randomizer ++ text)
+-- the text that is hashed to Q: a text with the randomizer C (4.5, algorithm 3, step 5)
+abbrev pub message_text : List ℕ → ℕ → List ℕ → List ℕ → List ℕ
+message_text id q randomizer text = tagged id q d_mesg ++ randomizer ++ text
 
--- the hash of all chains' ends, joined (4.3, algorithm 1, step 4)
+-- Q
+unfoldable pub message_hash : List ℕ → ℕ → List ℕ → List ℕ → List ℕ
+message_hash id q randomizer text = sha256 (message_text id q randomizer text)
+
+-- the text that is hashed to K: all chains' ends, joined (4.3, algorithm 1, step 4)
+abbrev pub key_text : List ℕ → ℕ → List ℕ → List ℕ
+key_text id q ends = tagged id q d_pblc ++ ends
+
+-- K, or a candidate for it
 abbrev pub key_hash : List ℕ → ℕ → List ℕ → List ℕ
-key_hash id q ends = sha256 (tagged id q d_pblc ++ ends)
+key_hash id q ends = sha256 (key_text id q ends)
 
 -- ---- chains (4.3, 4.5 and 4.6)
 
+-- the text that step j of chain i hashes
+abbrev pub step_text : List ℕ → ℕ → ℕ → ℕ → List ℕ → List ℕ
+step_text id q i j x = tagged id q i ++ (j ∷ x)
+
 -- step j of chain i
 abbrev pub step : List ℕ → ℕ → ℕ → ℕ → List ℕ → List ℕ
-step id q i j x = sha256 (tagged id q i ++ (j ∷ x))
+step id q i j x = sha256 (step_text id q i j x)
 
 -- n steps of chain i, the first of which has the number `first`
 unfoldable pub steps : List ℕ → ℕ → ℕ → ℕ → ℕ → List ℕ → List ℕ

@@ -1,6 +1,6 @@
 //! The chains of hashes (RFC 8554, 4.3, 4.5 and 4.6).
 ghost use Rattle.std.specs.Prelude.{◌≡◌, ◌+◌, ◌-◌, ◌<◌, ◌≤◌, ◌++◌, ◌∷◌, length, take};
-ghost use Rattle.lms_ots.specs.Ots.{chain, tagged};
+ghost use Rattle.lms_ots.specs.Ots.{chain, step_text, tagged};
 
 use cp_bytes::put;
 use sha2::{Digest, Sha256};
@@ -35,10 +35,19 @@ pub(crate) fn step_message(id: &[u8; 16], q: u32, i: u16) -> [u8; 55]
     message
 }
 
-// Chain `i` from step `from` up to and without step `to`. The text of all steps is built once, and
-// each step changes 33 of its bytes and is one compression.
+/// The 55 bytes that step `j` of chain `i` hashes (RFC 8554, 4.3).
+pub fn step_text(id: &[u8; 16], q: u32, i: u16, j: u8, value: &[u8; 32]) -> [u8; 55]
+    ensures { result ≡ step_text id.now q i j value.now }
+{
+    let mut message = step_message(id, q, i);
+    put_step(&mut message, j, value);
+    message
+}
+
+/// Chain `i` from step `from` up to and without step `to` (RFC 8554, 4.3). The text of all steps is
+/// built once, and each step changes 33 of its bytes and is one compression.
 #[tactic(auto, unfolding(crate::specs::Ots::steps))]
-pub(crate) fn chain(id: &[u8; 16], q: u32, i: u16, from: u8, to: u8, start: [u8; 32]) -> [u8; 32]
+pub fn chain(id: &[u8; 16], q: u32, i: u16, from: u8, to: u8, start: [u8; 32]) -> [u8; 32]
     requires { from ≤ to }
     ensures { result ≡ chain id.now q i from to start }
 {

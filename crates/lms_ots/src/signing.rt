@@ -12,11 +12,12 @@ use crate::verifying::{D_PBLC, max_digit, message_hash, with_cksm};
 use cp_bytes::put;
 use sha2::{Digest, Sha256};
 
-// The chain number under which the randomizer is made: no type has so many chains.
-pub(crate) const RANDOMIZER: u16 = 0xfffd;
+/// The chain number under which the randomizer is made (this project's own): no type has so many
+/// chains.
+pub const RANDOMIZER: u16 = 0xfffd;
 
-// x[i], the secret start of chain `i`.
-pub(crate) fn secret_start(id: &[u8; 16], q: u32, i: u16, secret: &[u8; 32]) -> [u8; 32]
+/// x[i], the secret start of chain `i` (RFC 8554, Appendix A).
+pub fn secret_start(id: &[u8; 16], q: u32, i: u16, secret: &[u8; 32]) -> [u8; 32]
     ensures { result ≡ secret_start id.now q i secret.now }
 {
     let mut message = step_message(id, q, i);

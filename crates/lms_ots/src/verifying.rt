@@ -10,13 +10,15 @@ use crate::ots_type::OtsType;
 use cp_bytes::put;
 use sha2::{Digest, Sha256};
 
-pub(crate) const D_PBLC: u16 = 0x8080;
+/// D_PBLC (RFC 8554, 4.3).
+pub const D_PBLC: u16 = 0x8080;
 
-const D_MESG: u16 = 0x8181;
+/// D_MESG (RFC 8554, 4.5).
+pub const D_MESG: u16 = 0x8181;
 
-// Q, the hash that is signed.
+/// Q, the hash that is signed (RFC 8554, 4.5).
 #[tactic(auto, unfolding(crate::specs::Ots::message_hash))]
-pub(crate) fn message_hash(id: &[u8; 16], q: u32, randomizer: &[u8], text: &[u8]) -> [u8; 32]
+pub fn message_hash(id: &[u8; 16], q: u32, randomizer: &[u8], text: &[u8]) -> [u8; 32]
     ensures { result ≡ message_hash id.now q randomizer.now text.now }
 {
     let mut hasher = Sha256::new_with_prefix(&tagged(id, q, D_MESG));
@@ -25,8 +27,8 @@ pub(crate) fn message_hash(id: &[u8; 16], q: u32, randomizer: &[u8], text: &[u8]
     hasher.finalize()
 }
 
-// Q || Cksm(Q).
-pub(crate) fn with_cksm(hash: &[u8; 32], w: u32) -> [u8; 34]
+/// Q || Cksm(Q), whose digits a signature shows (RFC 8554, 4.5).
+pub fn with_cksm(hash: &[u8; 32], w: u32) -> [u8; 34]
     requires { IsWidth w }
     ensures { result ≡ with_cksm hash.now w }
 {
@@ -36,8 +38,8 @@ pub(crate) fn with_cksm(hash: &[u8; 32], w: u32) -> [u8; 34]
     out
 }
 
-// y[i] of a signature.
-pub(crate) fn y_at(sig: &[u8], i: u32) -> [u8; 32]
+/// y[i], the 32 bytes that a one-time signature shows of chain `i` (RFC 8554, 4.5).
+pub fn y_at(sig: &[u8], i: u32) -> [u8; 32]
     requires { 68 + 32 * i ≤ length sig.now }
     ensures { result ≡ y_at sig.now i }
 {
@@ -47,8 +49,8 @@ pub(crate) fn y_at(sig: &[u8], i: u32) -> [u8; 32]
     out
 }
 
-// The greatest digit, which is the number of steps of a whole chain.
-pub(crate) fn max_digit(t: OtsType) -> u8
+/// 2^w - 1, the greatest digit, which is the number of steps of a whole chain (RFC 8554, 4.3).
+pub fn max_digit(t: OtsType) -> u8
     ensures { result ≡ max_digit (width_of t) }
 {
     match t {

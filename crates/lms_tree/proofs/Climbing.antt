@@ -135,7 +135,7 @@ path_of_nodes key r (suc n) i lt =
     (λ k k_lt. path_before key r n k k_lt ∙ path_of_nodes key r n k k_lt) (path_last key r n) i (omega arith)
 
 -- the path of an array that holds the nodes
-sibling_within : (v l : ℕ) → 2 ≤ v → v < 2 * l → (0 < sibling v) × (sibling v < 2 * l)
+pub sibling_within : (v l : ℕ) → 2 ≤ v → v < 2 * l → (0 < sibling v) × (sibling v < 2 * l)
 sibling_within v l low lt =
     elim (parity v) [
       | inl odd ↦ rw odd (omega arith, omega arith)
@@ -250,10 +250,10 @@ public_is_key key long =
     (spelled_reads (lms_type key.height) key.ots key.id (node key 1) long (node_long key 1))
 
 -- the one-time type and the height of the public key
-public_type : (key : Secret) → key_type (public_of key) ≡ key.ots
+pub public_type : (key : Secret) → key_type (public_of key) ≡ key.ots
 public_type key = ap ots_of (public_ots key) ∙ ots_of-code_of key.ots
 
-public_height : (key : Secret) → key_height (public_of key) ≡ levels_of key.height
+pub public_height : (key : Secret) → key_height (public_of key) ≡ levels_of key.height
 public_height key = ap height_of_code (public_lms key) ∙ levels_by_code key.height
 
 -- the conditions, for the one-time type t and the height h of the public key

@@ -1,8 +1,8 @@
 -- A public key is its 56 bytes: the LMS code, the LM-OTS code, the identifier I and the root T[1]
 -- (RFC 8554, 5.3). Numbers have four bytes, big endian.
-use Rattle.std.specs.Prelude.{ℕ, List, length, take, drop, Bool, ◌&&◌, ◌==◌, if◌then◌else◌}
+use Rattle.std.specs.Prelude.{ℕ, ◌+◌, ◌*◌, List, length, take, drop, Bool, ◌&&◌, ◌==◌, if◌then◌else◌}
 use Rattle.std.specs.Int.{w32, from_be_bytes}
-use Rattle.lms_ots.specs.Parameters.{is_ots_code, ots_of}
+use Rattle.lms_ots.specs.Parameters.{is_ots_code, ots_of, sig_len_of}
 use Rattle.lms_ots.specs.declared.ots_type.OtsType.{OtsType}
 use Rattle.lms_tree.specs.Parameters.{is_lms_code, height_of_code}
 use Rattle.lms_tree.specs.declared.key_fault.KeyFault.{KeyFault}
@@ -45,3 +45,7 @@ key_type key = ots_of (key_ots key)
 -- the height of the key's tree
 abbrev pub key_height : List ℕ → ℕ
 key_height key = height_of_code (key_lms key)
+
+-- the length of a signature under the key, which its two codes fix (5.4)
+abbrev pub key_sig_len : List ℕ → ℕ
+key_sig_len key = 8 + sig_len_of (key_type key) + 32 * key_height key

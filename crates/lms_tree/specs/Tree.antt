@@ -10,13 +10,21 @@ d_leaf = 0x8282
 abbrev pub d_intr : ℕ
 d_intr = 0x8383
 
--- the node r over a leaf's one-time public key
-abbrev pub leaf_node : List ℕ → ℕ → List ℕ → List ℕ
-leaf_node id r key = sha256 (tagged id r d_leaf ++ key)
+-- the text that the node r over a leaf's one-time public key hashes
+abbrev pub leaf_text : List ℕ → ℕ → List ℕ → List ℕ
+leaf_text id r key = tagged id r d_leaf ++ key
 
--- the node r over its two children
+-- that node
+abbrev pub leaf_node : List ℕ → ℕ → List ℕ → List ℕ
+leaf_node id r key = sha256 (leaf_text id r key)
+
+-- the text that the node r over its two children hashes
+abbrev pub inner_text : List ℕ → ℕ → List ℕ → List ℕ → List ℕ
+inner_text id r left right = tagged id r d_intr ++ left ++ right
+
+-- that node
 abbrev pub inner_node : List ℕ → ℕ → List ℕ → List ℕ → List ℕ
-inner_node id r left right = sha256 (tagged id r d_intr ++ left ++ right)
+inner_node id r left right = sha256 (inner_text id r left right)
 
 -- the number of the node that has the same parent
 abbrev pub sibling : ℕ → ℕ
@@ -27,9 +35,13 @@ unfoldable pub above : ℕ → ℕ → ℕ
 above r zero = r
 above r (suc n) = above r n / 2
 
--- the parent of the node r with the value x: an odd node stands at the right
+-- the text that the parent of the node r with the value x hashes: an odd node stands at the right
+abbrev pub parent_text : List ℕ → ℕ → List ℕ → List ℕ → List ℕ
+parent_text id r x other = inner_text id (r / 2) (if r % 2 == 1 then other else x) (if r % 2 == 1 then x else other)
+
+-- the parent
 abbrev pub parent : List ℕ → ℕ → List ℕ → List ℕ → List ℕ
-parent id r x other = inner_node id (r / 2) (if r % 2 == 1 then other else x) (if r % 2 == 1 then x else other)
+parent id r x other = sha256 (parent_text id r x other)
 
 -- path[i]
 abbrev pub path_at : List ℕ → ℕ → List ℕ

@@ -21,6 +21,7 @@ pub use laws::{
     public_reads, short_never_verifies, test_is_the_statement, tree_is_the_standards,
     what_is_signed_verifies,
 };
+pub use nodes::{D_INTR, D_LEAF, inner_node, leaf_node};
 pub use private_key::PrivateKey;
 pub use public_key::PublicKey;
 pub use verifying::verify;

@@ -7,7 +7,7 @@ use crate::height::Height;
 use crate::public_key::PublicKey;
 use crate::signing::{put_head, put_path};
 use cp_bytes::OutOfMemory;
-use lms_ots::OtsType;
+use lms_ots::{OtsType, RANDOMIZER, chain, secret_start};
 use std::alloc::Global;
 use std::marker::Model;
 use std::thread::Threads;
@@ -38,7 +38,9 @@ impl Model for PrivateKey {
 }
 
 impl PrivateKey {
-    ghost use Rattle.lms_tree.specs.Secret.{leaves_of, public_of, signature, signature_len};
+    ghost use Rattle.lms_ots.specs.Ots.{chain};
+    ghost use Rattle.lms_ots.specs.Signing.{randomizer_of, secret_start};
+    ghost use Rattle.lms_tree.specs.Secret.{leaves_of, node, public_of, signature, signature_len};
 
     /// The key of a seed and an identifier. All nodes of the tree are computed: for each leaf each
     /// chain in its whole length, from the secret values of RFC 8554, Appendix A. It takes 64 bytes
@@ -108,6 +110,63 @@ impl PrivateKey {
         ensures { result ≡ signature_len self.now }
     {
         8 + self.ots.sig_len() + 32 * self.height.levels() as usize
+    }
+
+    /// The height of the tree (RFC 8554, 5.1).
+    pub fn height(&self) -> Height
+        ensures { result ≡ self.now.height }
+    {
+        self.height
+    }
+
+    /// The one-time type (RFC 8554, 4.1).
+    pub fn ots(&self) -> OtsType
+        ensures { result ≡ self.now.ots }
+    {
+        self.ots
+    }
+
+    /// I, the identifier of 16 bytes (RFC 8554, 5.3).
+    pub fn id(&self) -> [u8; 16]
+        ensures value { result ≡ self.now.id }
+        ensures long { length self.now.id ≡ 16 }
+    {
+        self.id
+    }
+
+    /// T[r], the node `r` of the tree, of which 1 is the root and the leaves' nodes are the last half
+    /// (RFC 8554, 5.3).
+    #[tactic(auto, using(crate::proofs::Heights::heights))]
+    pub fn node(&self, r: u32) -> [u8; 32]
+        requires some { 0 < r }
+        requires within { r < 2 * leaves_of self.now }
+        ensures { result ≡ node self.now r }
+    {
+        self.nodes[r as usize]
+    }
+
+    /// The value of chain `i` of this leaf before its step `at`: the secret start after the steps 0
+    /// to `at - 1` (RFC 8554, 4.3 and Appendix A). Whoever has it can go on to every later step, so it
+    /// is secret until a signature shows it.
+    pub fn chain_value(&self, leaf: u32, i: u16, at: u8) -> [u8; 32]
+        ensures { result ≡
+            chain self.now.id leaf i 0 at (secret_start self.now.id leaf i self.now.seed) }
+    {
+        chain(
+            &self.id,
+            leaf,
+            i,
+            0,
+            at,
+            secret_start(&self.id, leaf, i, &self.seed),
+        )
+    }
+
+    /// C, the randomizer that this leaf signs with (RFC 8554, 4.5). It is no secret.
+    pub fn randomizer(&self, leaf: u32) -> [u8; 32]
+        ensures { result ≡ randomizer_of self.now.id leaf self.now.seed }
+    {
+        secret_start(&self.id, leaf, RANDOMIZER, &self.seed)
     }
 
     /// Writes the signature of `text` by this leaf into `out`, which has the length of a signature.

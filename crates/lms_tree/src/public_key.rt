@@ -4,7 +4,7 @@ ghost use Rattle.std.specs.Int.{w32, to_be_bytes};
 ghost use Rattle.std.specs.Result.{OkIff};
 ghost use Rattle.lms_ots.specs.Parameters.{code_of};
 ghost use Rattle.lms_tree.specs.Parameters.{lms_code_of};
-ghost use Rattle.lms_tree.specs.PublicKey.{key_reads, key_fault, key_lms, key_id, key_root, key_type, key_height};
+ghost use Rattle.lms_tree.specs.PublicKey.{key_reads, key_fault, key_lms, key_id, key_root, key_type, key_height, key_sig_len};
 
 use crate::fields::{array_at, number_at};
 use crate::key_fault::KeyFault;
@@ -86,6 +86,15 @@ impl PublicKey {
         put(&mut out, 8, &self.id);
         put(&mut out, 24, &self.root);
         out
+    }
+
+    /// The length in bytes of a signature under the key, which its two codes fix (RFC 8554, 5.4).
+    pub fn sig_len(&self) -> usize
+        ensures value { result ≡ key_sig_len self.now }
+        ensures bound { result ≤ 9324 }
+        ensures reads { IsTrue (key_reads self.now) }
+    {
+        8 + self.ots().sig_len() + 32 * self.height() as usize
     }
 
     // h, the tree's height.
