@@ -5,4 +5,4 @@ mod audit_laws;
 mod laws;
 
 pub use audit_laws::{honest_is_clean, own_is_clean, own_is_given};
-pub use laws::{no_run_is_framed, unframeable};
+pub use laws::{lives_unframeable, no_run_is_framed, unframeable};

@@ -6,8 +6,10 @@ mod envelopes;
 mod framed;
 mod judgement;
 mod judging;
+mod lives;
 mod store;
 mod tables;
 
 pub use judgement::Judgement;
 pub use judging::judge;
+pub use lives::{LifeJudgement, judge_life};
