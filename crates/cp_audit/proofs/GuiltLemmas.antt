@@ -6,11 +6,10 @@ use Rattle.cp_chain.specs.Rules.{first_of, or_else}
 use Rattle.cp_evidence.specs.Evidence.{Evidence}
 use Rattle.cp_evidence.specs.Evidence.Evidence.{K5}
 use Rattle.cp_evidence.specs.Material.{GivenEpoch, envelope_before}
-use Rattle.cp_evidence.specs.Verdict.{evidence_if, guilt_by_kind, link_is_wrong}
+use Rattle.cp_evidence.specs.Verdict.{by_one, by_two, by_tables, by_log, evidence_if, guilt_by_kind, link_is_wrong}
 use Rattle.cp_audit.specs.LogParts.{TablesStand}
 use Rattle.cp_audit.specs.Rows.{Writes}
 use Rattle.cp_audit.proofs.RowLemmas.{WritesOut}
-use Rattle.cp_audit.specs.Verdicts.{by_one, by_two, by_tables, by_log}
 
 -- ---- one kind before the others
 

@@ -1,5 +1,3 @@
-pub mod Signed
-pub mod GetText
 pub mod HeadLemmas
 pub mod TableLemmas
 pub mod TakingLemmas

@@ -8,13 +8,14 @@ use Rattle.cp_chain.specs.Frame.{Frame}
 use Rattle.cp_chain.specs.Log.{LogPart, log_of}
 use Rattle.cp_chain.specs.View.{frame_view}
 use Rattle.cp_evidence.specs.Material as material
+use Rattle.cp_evidence.specs.View.{before_view, signed_closing_view}
+use Rattle.cp_evidence.specs.declared.store.Store.{Store}
 use Rattle.cp_audit.specs.declared.frames.Frames.{Frames}
 use Rattle.cp_audit.specs.declared.given.GivenEpoch.{GivenEpoch}
 use Rattle.cp_audit.specs.declared.part.Part.{Part}
-use Rattle.cp_audit.specs.declared.store.Store.{Store}
 use Rattle.cp_audit.specs.declared.refusal.AuditRefusal.{AuditRefusal}
 use Rattle.cp_audit.specs.declared.refusal.AuditRefusal.TheVariants.{NotGiven, Malformed, OutOfMemory}
-use Rattle.cp_audit.specs.View.{what_view, before_view, closing_view}
+use Rattle.cp_audit.specs.View.{what_view}
 use Rattle.cp_audit.specs.Parts.{part_view, IsFramed, frame_in}
 
 -- the refusal is what this gives; want of memory says nothing
@@ -62,7 +63,7 @@ GivesLog store families m before closing (Err refusal) = Refuses (log_where stor
 -- ---- what is given
 
 abbrev pub given_view : GivenEpoch → material.GivenEpoch
-given_view g = record { key = g.store.key; epoch = g.epoch; families_text = g.families_text.now; families = g.families; before = before_view g.before; closing = closing_view g.closing; table_before = g.table_before.now; table = g.table.now; log = seen g.log }
+given_view g = record { key = g.store.key; epoch = g.epoch; families_text = g.families_text.now; families = g.families; before = before_view g.before; closing = signed_closing_view g.closing; table_before = g.table_before.now; table = g.table.now; log = seen g.log }
 
 abbrev pub Gives : material.Material → Result GivenEpoch AuditRefusal → Type 0
 Gives m (Ok g) = (material.given_of m ≡ Ok (given_view g)) × AreFramed (material.frame_for (given_view g)) g.log

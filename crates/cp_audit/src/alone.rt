@@ -8,10 +8,8 @@ ghost use Rattle.cp_evidence.specs.Evidence.Evidence.{K9, K10};
 ghost use Rattle.cp_evidence.specs.Verdict.{has_wrong_head};
 ghost use Rattle.cp_audit.specs.Rows.{Writes};
 
-use crate::heads::head_fits;
-use crate::store::Store;
 use cp_bytes::OutOfMemory;
-use cp_evidence::{write_k9, write_k10};
+use cp_evidence::{Store, head_fits, write_k9, write_k10};
 use cp_statements::{Envelope, Kind};
 use std::alloc::Global;
 

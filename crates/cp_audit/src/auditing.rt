@@ -49,12 +49,14 @@ use std::alloc::Global;
 ///     stands beside one that is outside the counts.
 ///
 /// The evidence's bytes convict the store. They are at most 64 more than twice those of the closings and
-/// the hand-ins, and those of both tables, the families list and the log, together. Where nothing is found, the verdict is clean, with the number
-/// of the log's texts, of the hand-ins that verify as attestations of the epoch, and of all others.
+/// the hand-ins, and those of both tables, the families list and the log, together. Where nothing is
+/// found, the verdict is clean, with the number of the log's texts, of the hand-ins that verify as
+/// attestations of the epoch, and of all others.
 pub fn audit(alloc: Global, material: &Material, handins: &[u8]) -> Result<Verdict, AuditRefusal>
     ensures verdict { IsAnswer (audited (material_view material.now) handins.now) result }
     ensures convicts { GuiltyConvicts material.now.key result }
-    ensures is_short { GuiltyWithin (evidence_limit (material_view material.now) handins.now) result }
+    ensures is_short { GuiltyWithin
+        (evidence_limit (material_view material.now) handins.now) result }
 {
     is_material(material);
     let o = match given(alloc, material) {
@@ -96,7 +98,9 @@ fn is_bytes(bytes: &[u8])
 fn clean(o: &GivenEpoch, parts: &[Part], found: &HandIns) -> Verdict
     requires few { length parts.now < 2 ^ 32 }
     requires all { length found.now.verified.items ≤ found.now.count }
-    ensures { result ≡ Clean (sum_by (λ p. length p.texts) (map part_view parts.now)) (count_by (is_of_epoch (given_view o.now)) (map envelope_view found.now.verified.items)) (found.now.count - count_by (is_of_epoch (given_view o.now)) (map envelope_view found.now.verified.items)) }
+    ensures { result ≡ Clean (sum_by (λ p. length p.texts) (map part_view parts.now))
+        (count_by (is_of_epoch (given_view o.now)) (map envelope_view found.now.verified.items))
+        (found.now.count - count_by (is_of_epoch (given_view o.now)) (map envelope_view found.now.verified.items)) }
 {
     let handed = handed(o, found.verified.as_slice());
     Verdict::Clean {

@@ -6,14 +6,12 @@ ghost use Rattle.cp_chain.specs.Rules.{first_of};
 ghost use Rattle.cp_evidence.specs.Evidence.Evidence.{K3};
 ghost use Rattle.cp_evidence.specs.Verdict.{is_other_closing, other_closing};
 ghost use Rattle.cp_audit.specs.Given.{given_view};
+ghost use Rattle.cp_evidence.specs.View.{signed_closing_view};
 ghost use Rattle.cp_audit.specs.Rows.{Writes};
-ghost use Rattle.cp_audit.specs.View.{closing_view};
 
-use crate::closings::{Before, SignedClosing};
 use crate::given::GivenEpoch;
-use crate::store::Store;
 use cp_bytes::OutOfMemory;
-use cp_evidence::write_k3;
+use cp_evidence::{Before, SignedClosing, Store, write_k3};
 use cp_statements::Envelope;
 use std::alloc::Global;
 
@@ -53,7 +51,7 @@ fn closing_beside<'a>(o: &GivenEpoch<'a>, x: &Envelope) -> Option<Envelope<'a>>
 
 // Whether the hand-in is a closing of the given one's epoch with another text.
 fn is_other_closing(store: &Store, x: &Envelope, given: &SignedClosing) -> bool
-    ensures { result ≡ is_other_closing (sha256 store.now.key) (envelope_view x.now) (closing_view given.now) }
+    ensures { result ≡ is_other_closing (sha256 store.now.key) (envelope_view x.now) (signed_closing_view given.now) }
 {
     match store.closing(x.text) {
         Some(c) => c.epoch == given.closing.epoch && x.text != given.envelope.text,

@@ -13,11 +13,9 @@ ghost use Rattle.cp_audit.specs.Firsts.{KeepsFirsts, differ, kept_in, kept_with,
 ghost use Rattle.cp_audit.specs.Given.{given_view};
 ghost use Rattle.cp_audit.specs.Rows.{Writes};
 
-use crate::closings::Before;
 use crate::given::GivenEpoch;
-use crate::store::Store;
 use cp_bytes::OutOfMemory;
-use cp_evidence::{Two, write_k1, write_k2};
+use cp_evidence::{Before, Store, Two, write_k1, write_k2};
 use cp_statements::Envelope;
 use std::alloc::Global;
 use std::collections::BTreeMap;

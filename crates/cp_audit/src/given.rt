@@ -1,16 +1,17 @@
 //! Whether an epoch's material is given.
 ghost use Rattle.std.specs.Prelude.{◌≡◌};
 ghost use Rattle.cp_audit.specs.Given.{Gives, GivesLog, parts_read};
-ghost use Rattle.cp_audit.specs.View.{before_view, closing_view, material_view};
+ghost use Rattle.cp_audit.specs.View.{material_view};
+ghost use Rattle.cp_evidence.specs.View.{before_view, signed_closing_view};
 
-use crate::closings::{Before, SignedClosing};
+use crate::closings::{closing_before, closing_in};
 use crate::frames::{Frames, table_in};
 use crate::given_log::given_log;
 use crate::part::Part;
-use crate::store::Store;
 use crate::tables::{is_formed, is_formed_before, went_back};
 use crate::{AuditRefusal, Material, What};
 use cp_bytes::digest;
+use cp_evidence::{Before, SignedClosing, Store};
 use cp_families::Families;
 use std::alloc::Global;
 
@@ -52,12 +53,12 @@ pub(crate) fn given<'a>(alloc: Global, m: &Material<'a>) -> Result<GivenEpoch<'a
             what: What::Families,
         });
     };
-    let Some(before) = store.closing_before(m.epoch, m.before) else {
+    let Some(before) = closing_before(&store, m.epoch, m.before) else {
         return Err(AuditRefusal::NotGiven {
             what: What::ClosingBefore,
         });
     };
-    let Some(closing) = store.closing_in(0, m.epoch, m.closing) else {
+    let Some(closing) = closing_in(&store, 0, m.epoch, m.closing) else {
         return Err(AuditRefusal::NotGiven {
             what: What::Closing,
         });
@@ -101,7 +102,7 @@ fn log_where_read<'a>(
     before: &Before<'a>,
     closing: &SignedClosing<'a>,
 ) -> Result<Option<Vec<Part<'a>>>, AuditRefusal>
-    ensures { GivesLog store.now families.now (material_view m.now) (before_view before.now) (closing_view closing.now) result }
+    ensures { GivesLog store.now families.now (material_view m.now) (before_view before.now) (signed_closing_view closing.now) result }
 {
     if !is_formed_before(m.table_before, before) {
         return Ok(None);

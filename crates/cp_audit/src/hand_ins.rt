@@ -5,8 +5,8 @@ ghost use Rattle.cp_evidence.specs.Conditions.{signed_by};
 ghost use Rattle.cp_audit.specs.HandIns.{Collects};
 
 use crate::AuditRefusal;
-use crate::store::Store;
 use cp_bytes::{Cut, OutOfMemory};
+use cp_evidence::Store;
 use cp_statements::Envelope;
 use std::alloc::Global;
 

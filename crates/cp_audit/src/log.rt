@@ -1,4 +1,4 @@
-//! The log of an epoch: read, and set against the tables.
+//! The log of an epoch, read.
 ghost use Rattle.std.specs.Prelude.{◌≡◌, option_map, IfOk};
 ghost use Rattle.cp_audit.specs.Parts.{ReadsLog, TakesCount};
 

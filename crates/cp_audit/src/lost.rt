@@ -5,9 +5,8 @@ ghost use Rattle.std.specs.List.{find};
 ghost use Rattle.cp_statements.specs.View.{attestation_view, envelope_view};
 ghost use Rattle.cp_chain.specs.Segment.{segment_text};
 ghost use Rattle.cp_chain.specs.Standing.{stands};
-ghost use Rattle.cp_chain.specs.View.{frame_view};
 ghost use Rattle.cp_evidence.specs.AuditLaws.{LongPartsFit};
-ghost use Rattle.cp_evidence.specs.Conditions.{attestation_by, is_outside};
+ghost use Rattle.cp_evidence.specs.Conditions.{attestation_by};
 ghost use Rattle.cp_evidence.specs.Evidence.{evidence_text};
 ghost use Rattle.cp_evidence.specs.Material.{frame_for, segment_for, store_id};
 ghost use Rattle.cp_evidence.specs.Verdict.{is_lost, lost_evidence, segment_beside};
@@ -20,8 +19,7 @@ use crate::given::GivenEpoch;
 use crate::lookup::part_at;
 use crate::part::Part;
 use cp_bytes::OutOfMemory;
-use cp_chain::Frame;
-use cp_evidence::write_k8;
+use cp_evidence::{is_outside, write_k8};
 use cp_statements::{Attestation, Envelope};
 use std::alloc::{AllocError, Global};
 
@@ -121,11 +119,4 @@ fn no_texts<'a>() -> &'a [u8]
     ensures { result.now ≡ segment_text [] }
 {
     &[0, 0, 0, 0]
-}
-
-// Whether the attestation's position isn't between the counts of its block.
-fn is_outside(frame: &Frame, a: &Attestation) -> bool
-    ensures { result ≡ is_outside (frame_view frame.now) (attestation_view a.now) }
-{
-    a.position < frame.before.count || frame.after.count <= a.position
 }

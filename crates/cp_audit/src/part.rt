@@ -1,15 +1,15 @@
 //! One block's segment of a log.
 ghost use Rattle.std.specs.Prelude.{◌≡◌, ◌<◌, ◌≤◌, length, map, take, IfOk};
 ghost use Rattle.cp_bytes.specs.Hashes.{head_after};
-ghost use Rattle.cp_statements.specs.View.{attestation_view, entry_view};
+ghost use Rattle.cp_statements.specs.View.{attestation_view};
 ghost use Rattle.cp_chain.specs.Rules.{text_at};
 ghost use Rattle.cp_chain.specs.Segment.{segment_text};
-ghost use Rattle.cp_chain.specs.Standing.{reaches, says_the_same, stands};
+ghost use Rattle.cp_chain.specs.Standing.{reaches, stands};
 ghost use Rattle.cp_chain.specs.View.{frame_view};
 ghost use Rattle.cp_audit.specs.Heads.{heads_from, stands_at};
 
 use cp_bytes::{OutOfMemory, head};
-use cp_chain::{Frame, Segment};
+use cp_chain::{Frame, Segment, says_the_same};
 use cp_statements::{Attestation, Entry};
 use std::alloc::Global;
 
@@ -122,18 +122,4 @@ pub(crate) fn heads_of(
     }
     heads.push(last)?;
     Ok(heads)
-}
-
-// Whether the entry says what the attestation says.
-fn says_the_same(a: &Attestation, entry: &Entry) -> bool
-    ensures { result ≡ says_the_same (attestation_view a.now) (entry_view entry.now) }
-{
-    entry.kind == a.kind
-        && entry.epoch == a.epoch
-        && entry.block == a.block
-        && entry.position == a.position
-        && entry.client == a.client
-        && entry.nonce == a.nonce
-        && entry.version == a.version
-        && entry.content == a.content
 }

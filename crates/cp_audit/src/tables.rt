@@ -1,17 +1,17 @@
 //! The tables of an epoch's material.
 ghost use Rattle.std.specs.Prelude.{◌≡◌, true};
-ghost use Rattle.cp_statements.specs.View.{closing_view as closing_seen};
+ghost use Rattle.cp_statements.specs.View.{closing_view};
 ghost use Rattle.cp_tips.specs.Table.{ascends};
 ghost use Rattle.cp_evidence.specs.Material.{before_in, is_formed, is_formed_before, least_regressed};
-ghost use Rattle.cp_audit.specs.View.{before_view};
+ghost use Rattle.cp_evidence.specs.View.{before_view};
 
-use crate::closings::Before;
+use cp_evidence::Before;
 use cp_statements::Closing;
 use cp_tips::{TableText, first_regress};
 
 // Whether the bytes are a table that is well formed for the closing.
 pub(crate) fn is_formed(bytes: &[u8], closing: &Closing) -> bool
-    ensures { result ≡ is_formed bytes.now (closing_seen closing.now) }
+    ensures { result ≡ is_formed bytes.now (closing_view closing.now) }
 {
     match TableText::read(bytes) {
         Ok(table) => table.well_formed(closing.rows, closing.entries),

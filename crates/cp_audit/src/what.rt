@@ -17,7 +17,6 @@ pub enum What {
     Table,
     /// The bytes spell no log of the epoch.
     LogText,
-    /// The block, the least such one, whose count rose has no segment that reaches in the log, or one
-    /// whose count didn't rise has a segment.
+    /// The least block whose segment in the log doesn't reach, or that has none though its count rose.
     Log(u64),
 }

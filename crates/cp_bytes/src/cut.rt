@@ -44,6 +44,16 @@ impl<'a> Cut<'a> {
         }
     }
 
+    /// The same text once more, read as far.
+    pub fn copy(&self) -> Cut<'a>
+        ensures { result ≡ self.now }
+    {
+        Cut {
+            total: self.total,
+            rest: self.rest,
+        }
+    }
+
     /// The offset of what is left.
     pub fn at(&self) -> u64
         ensures at { result ≡ offset_of self.now }

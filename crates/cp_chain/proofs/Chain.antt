@@ -1,17 +1,18 @@
 -- The laws of segments.
-use Rattle.std.proofs.Common.{◌≡◌, ℕ, zero, suc, ◌+◌, ◌<◌, Bool, true, false, not, ◌&&◌, eqb, ltb, List, [], ◌∷◌, ◌++◌, length, get_or, take, Option, Some, None, Ok, refl, sym, ap, ◌∙◌, arith}
-use Rattle.std.specs.Prelude.{filter_map, unwrap_or}
+use Rattle.std.proofs.Common.{◌≡◌, ℕ, zero, suc, ◌+◌, ◌<◌, Bool, true, false, not, ◌&&◌, eqb, ltb, List, [], ◌∷◌, ◌++◌, length, get_or, take, Option, Some, None, Result, Ok, Err, refl, sym, ap, ◌∙◌, arith}
+use Rattle.std.specs.Prelude.{◌≢◌, filter_map, unwrap_or}
 use Rattle.std.specs.List.{list_any, AllByRecursion, Contains}
+use Rattle.sha2.specs.Sha256.{sha256}
 use Rattle.sha2.proofs.Facts256.{length-sha256}
 use Rattle.std.proofs.lemmas.List.{length-take-le, get_or-take}
 use Rattle.std.proofs.lemmas.List.Elements.{filter_map-append, Contains-append_left, Contains-append_right}
-use Rattle.std.proofs.lemmas.Bool.{and_parts, or_parts, eqb-true, eq-eqb, ltb-true, false≢true}
+use Rattle.std.proofs.lemmas.Bool.{and_parts, or_parts, eqb-true, eq-eqb, ltb-true, false≢true, false_from_ne_true}
 use Rattle.std.proofs.lemmas.Slice.Eq.{bytes_eq-Decides}
 use Rattle.cp_bytes.specs.Hashes.{head, head_after, chain_text, chain_texts, CollisionFree}
 use Rattle.cp_statements.specs.Entry.{Entry, entry_of}
 use Rattle.cp_families.specs.Writers.{writer}
 use Rattle.cp_chain.specs.Frame.{Side, Frame}
-use Rattle.cp_chain.specs.Legal.{ok_and, Put, same_put, put_in, last_or, put_at, put_by, latest, is_call, Follows, FollowsText, LegalFrom, Legal}
+use Rattle.cp_chain.specs.Legal.{ok_and, Put, same_put, put_read, put_in, last_or, put_at, put_by, latest, is_call, Follows, FollowsText, LegalFrom, Legal}
 use Rattle.cp_chain.specs.Rules.{Rule, text_at, broken}
 use Rattle.cp_chain.specs.Rules.Rule.{Text, Block, Epoch, Position, Latest, Version, Writer, Repeat, LastTip}
 use Rattle.cp_chain.specs.Standing.{reaches}
@@ -38,6 +39,29 @@ latest-one p text = go (put_in text)
     go : (o : Option Put) → last_or p (filter_map (λ (t : Unit {0}). o) (tt ∷ [])) ≡ unwrap_or o p
     go None = refl
     go (Some q) = refl
+
+-- ---- what the last text makes of head and latest put
+
+pub head_by_last : (h : List ℕ) (ts : List (List ℕ)) (t : List ℕ) → head_after h (ts ++ t ∷ []) ≡ sha256 (chain_text (head_after h ts) t)
+unfolding head
+head_by_last h [] t = refl
+head_by_last h (x ∷ ts) t = head_by_last (head h x) ts t
+
+its_put : (d : Put) (r : Result Entry ℕ) (e : Entry) → r ≡ Ok e → e.kind ≡ 1 → unwrap_or (put_read r) d ≡ put_by e
+its_put d r e is put = rw is (rw (eq-eqb e.kind 1 put) refl)
+
+no_put : (d : Put) (r : Result Entry ℕ) → ((e : Entry) → r ≡ Ok e → e.kind ≢ 1) → unwrap_or (put_read r) d ≡ d
+no_put d (Err left) other = refl
+no_put d (Ok e) other = rw (false_from_ne_true (eqb e.kind 1) (λ is. other e refl (eqb-true _ _ is))) refl
+
+latest_by_last : (p : Put) (ts : List (List ℕ)) (t : List ℕ) → latest p (ts ++ t ∷ []) ≡ unwrap_or (put_in t) (latest p ts)
+latest_by_last p ts t = latest-append p ts (t ∷ []) ∙ latest-one (latest p ts) t
+
+pub latest_at_put : (p : Put) (ts : List (List ℕ)) (t : List ℕ) (e : Entry) → entry_of t ≡ Ok e → e.kind ≡ 1 → latest p (ts ++ t ∷ []) ≡ put_by e
+latest_at_put p ts t e is put = latest_by_last p ts t ∙ its_put (latest p ts) (entry_of t) e is put
+
+pub latest_at_other : (p : Put) (ts : List (List ℕ)) (t : List ℕ) → ((e : Entry) → entry_of t ≡ Ok e → e.kind ≢ 1) → latest p (ts ++ t ∷ []) ≡ latest p ts
+latest_at_other p ts t other = latest_by_last p ts t ∙ no_put (latest p ts) (entry_of t) other
 
 -- ---- a segment grows by one text exactly where the text may come next
 

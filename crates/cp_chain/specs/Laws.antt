@@ -1,11 +1,29 @@
 -- The statements of the laws on segments and logs.
-use Rattle.std.specs.Prelude.{ℕ, ◌≡◌, ◌↔◌, true, false, List, [], ◌∷◌, ◌++◌, length, Some, None}
+use Rattle.std.specs.Prelude.{ℕ, ◌≡◌, ◌≢◌, ◌↔◌, true, false, List, [], ◌∷◌, ◌++◌, length, Some, None, Ok}
 use Rattle.std.specs.List.{Contains}
-use Rattle.cp_bytes.specs.Hashes.{head_after, chain_texts, CollisionFree}
+use Rattle.sha2.specs.Sha256.{sha256}
+use Rattle.cp_bytes.specs.Hashes.{head_after, chain_text, chain_texts, CollisionFree}
+use Rattle.cp_statements.specs.Entry.{Entry, entry_of}
 use Rattle.cp_chain.specs.Frame.{Side, Frame}
-use Rattle.cp_chain.specs.Legal.{FollowsText, LegalFrom, Legal}
+use Rattle.cp_chain.specs.Legal.{Put, put_by, latest, FollowsText, LegalFrom, Legal}
 use Rattle.cp_chain.specs.Rules.{Rule, broken, Found, IsFirstFault, first_fault}
 use Rattle.cp_chain.specs.Standing.{reaches}
+
+-- Behind no text the head and the latest put are those from before.
+abbrev pub NoTextKeeps : Type 0
+NoTextKeeps = (h : List ℕ) (p : Put) → (head_after h [] ≡ h) × (latest p [] ≡ p)
+
+-- The head behind a text is the digest of the head behind all before it, and the text.
+abbrev pub HeadByLast : Type 0
+HeadByLast = (h : List ℕ) (texts : List (List ℕ)) (text : List ℕ) → head_after h (texts ++ text ∷ []) ≡ sha256 (chain_text (head_after h texts) text)
+
+-- The latest put behind a put's entry is that entry's own.
+abbrev pub LatestAtPut : Type 0
+LatestAtPut = (p : Put) (texts : List (List ℕ)) (text : List ℕ) (e : Entry) → entry_of text ≡ Ok e → e.kind ≡ 1 → latest p (texts ++ text ∷ []) ≡ put_by e
+
+-- Behind any other text, a get's entry or no entry, it is the latest of all before it.
+abbrev pub LatestAtOther : Type 0
+LatestAtOther = (p : Put) (texts : List (List ℕ)) (text : List ℕ) → ((e : Entry) → entry_of text ≡ Ok e → e.kind ≢ 1) → latest p (texts ++ text ∷ []) ≡ latest p texts
 
 -- A segment grows by a text exactly where the text may come next.
 abbrev pub GrowsByOne : Type 0

@@ -1,10 +1,11 @@
 -- Logs: the segments of all blocks that gained a text in an epoch (this project's own). A log is the
 -- tag "CPl1", the epoch, a number of four bytes, and so many times a block and its segment.
-use Rattle.std.specs.Prelude.{ℕ, zero, suc, ◌<◌, ◌≤◌, ◌^◌, ◌≡◌, Bool, true, ◌&&◌, List, [], ◌∷◌, ◌++◌, length, Option, Some, None, Result, Ok, Err, nat_lt, if◌then◌else◌, codes, flat_map}
+use Rattle.std.specs.Prelude.{ℕ, zero, suc, ◌<◌, ◌≤◌, ◌^◌, ◌≡◌, Bool, true, ◌&&◌, List, [], ◌∷◌, ◌++◌, length, Option, Some, None, Result, Ok, Err, if◌then◌else◌, codes, flat_map}
 use Rattle.std.specs.Int.{w32, w64, to_be_bytes}
 use Rattle.std.specs.List.{AllByRecursion}
 use Rattle.cp_bytes.specs.Fields.{◌>>=◌, field_at, ended, at_offset}
 use Rattle.cp_bytes.specs.Fields.Field.{Tag, U32, U64, Epoch}
+pub use Rattle.cp_tips.specs.Rows.{comes_behind}
 use Rattle.cp_chain.specs.Segment.{SegmentFits, segment_text, segment_at, first_or_none}
 
 -- a block and its segment
@@ -22,11 +23,6 @@ log_part_text p = to_be_bytes w64 p.block ++ segment_text p.texts
 -- its bytes
 unfoldable pub log_text : Log → List ℕ
 log_text l = codes "CPl1" ++ (to_be_bytes w64 l.epoch ++ (to_be_bytes w32 (length l.parts) ++ flat_map log_part_text l.parts))
-
--- the block comes after the one before
-abbrev pub comes_behind : Option ℕ → ℕ → Bool
-comes_behind None block = true
-comes_behind (Some before) block = nat_lt before block
 
 -- each segment's block is greater than the one before it
 abbrev pub parts_ascend : Option ℕ → List LogPart → Bool

@@ -1,8 +1,19 @@
 //! The laws on segments and logs.
-ghost use Rattle.cp_chain.specs.Laws.{FirstFaultIsLeast, GrowsByOne, LegalIsUnbroken, NoFaultIsLegal, OneSegmentReaches, OneWayToAHead};
+ghost use Rattle.cp_chain.specs.Laws.{FirstFaultIsLeast, GrowsByOne, HeadByLast, LatestAtOther, LatestAtPut, LegalIsUnbroken, NoFaultIsLegal, NoTextKeeps, OneSegmentReaches, OneWayToAHead};
 ghost use Rattle.cp_chain.specs.Log.{LogFits, log_of, log_text};
 ghost use Rattle.cp_chain.specs.Segment.{SegmentFits, segment_of, segment_text};
 ghost use Rattle.cp_statements.specs.Laws.{IsExact};
+
+/// What is carried from text to text is what the last one makes of it. Behind none, head and latest put
+/// are those from before. The head behind a text is the digest of "CPch", the head behind all before it
+/// and the text. The latest put is the text's own where it is a put's entry, otherwise that of all
+/// before it.
+pub fn last_text_decides()
+    ensures none { NoTextKeeps }
+    ensures head { HeadByLast }
+    ensures put { LatestAtPut }
+    ensures other { LatestAtOther }
+{}
 
 /// A segment grows by a text exactly where that text may come next.
 pub fn grows_by_one()

@@ -25,4 +25,4 @@ pub use indexed::first_fault_by_index;
 pub use log::{LogPart, LogParts, LogText};
 pub use rule::Rule;
 pub use segment::{Segment, Texts};
-pub use standing::{reaches, stands};
+pub use standing::{reaches, says_the_same, stands};

@@ -2,7 +2,7 @@
 ghost use Rattle.std.specs.Prelude.{◌≡◌, None};
 ghost use Rattle.cp_chain.specs.Log.{comes_behind, log_of, log_part_at, log_parts_at, log_parts_in};
 ghost use Rattle.cp_chain.specs.View.{log_part_view};
-ghost use Rattle.cp_families.specs.View.{ReadsOn};
+ghost use Rattle.cp_statements.specs.Reading.{ReadsOn};
 
 use crate::Segment;
 use cp_bytes::Cut;

@@ -1,6 +1,6 @@
 //! Segments: the texts that a block's chain gained in an epoch.
 ghost use Rattle.std.specs.Prelude.{◌≡◌, ◌<◌, ◌≤◌, length, IsErr, MatchOption};
-ghost use Rattle.cp_bytes.specs.Reading.{ReadsOn};
+ghost use Rattle.cp_bytes.specs.Reading.{ReadsOn, Reads as ReadsPart};
 ghost use Rattle.cp_statements.specs.Entry.{entry_of};
 ghost use Rattle.cp_statements.specs.View.{entry_view};
 ghost use Rattle.cp_chain.specs.Rules.{text_at};
@@ -33,14 +33,17 @@ impl<'a> Segment<'a> {
     ghost use Rattle.cp_statements.specs.Reading.{Reads};
 
     /// The segment at the front of what is left: a number of four bytes, big endian, and so many
-    /// texts, each with a length of four bytes, big endian, before it.
+    /// texts, each with a length of four bytes, big endian, before it. A refusal leaves the cursor as
+    /// it was.
     #[tactic(auto, unfolding(crate::specs::Segment::segment_at))]
     pub fn take(cut: &mut Cut<'a>) -> Result<Segment<'a>, Short>
-        ensures { ReadsOn (λ x. x) cut.old cut.new result (segment_at cut.old.rest) }
+        ensures { ReadsPart (λ x. x) cut.old cut.new result (segment_at cut.old.rest) }
     {
-        let count = cut.be_u32()?;
-        let parts = cut.rest();
-        pass_parts(cut, count)?;
+        let mut ahead = cut.copy();
+        let count = ahead.be_u32()?;
+        let parts = ahead.rest();
+        pass_parts(&mut ahead, count)?;
+        *cut = ahead;
         Ok(Segment { count, parts })
     }
 

@@ -48,7 +48,7 @@ pub fn stands(frame: &Frame, segment: &Segment, a: &Attestation) -> bool
 }
 
 /// Whether the entry says what the attestation says.
-fn says_the_same(a: &Attestation, entry: &Entry) -> bool
+pub fn says_the_same(a: &Attestation, entry: &Entry) -> bool
     ensures { result ≡ says_the_same (attestation_view a.now) (entry_view entry.now) }
 {
     entry.kind == a.kind

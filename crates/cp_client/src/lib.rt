@@ -8,7 +8,7 @@ mod asking;
 mod comparing;
 mod field;
 mod head;
-pub mod laws;
+mod laws;
 mod refusals;
 
 pub use accepted::Accepted;
@@ -16,4 +16,5 @@ pub use accepting::accept;
 pub use asked::{Asked, AskedPut};
 pub use asking::ask_put;
 pub use field::Field;
+pub use laws::{asked_is_exact, served_is_latest};
 pub use refusals::{AskRefusal, ClientRefusal};

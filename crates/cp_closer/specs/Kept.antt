@@ -1,4 +1,5 @@
--- What every closer keeps (this project's own). No public clause cites this module.
+-- What every closer keeps (this project's own): where it stands with its epoch and its seals, and that
+-- what it took has a place in a log.
 use Rattle.std.specs.Prelude.{ℕ, ◌+◌, ◌<◌, ◌≤◌, ◌^◌, ◌≡◌, length}
 use Rattle.std.specs.List.{AllByRecursion}
 use Rattle.cp_core.specs.declared.phase.Phase.{Phase}
@@ -15,8 +16,8 @@ taken_in (Half e k) = k
 taken_in (Full e) = 16
 taken_in (Sealed e) = 0
 
--- the epoch is one that can be closed, fewer than sixteen parts make a half, and there is a seal for each
--- epoch before, and one for the phase's where it is sealed
+-- The epoch is one that can be closed, or the first that can't, fewer than sixteen parts make a half, and
+-- there is a seal for each epoch before, and one for the phase's where it is sealed.
 abbrev pub PhaseFits : ℕ → ℕ → Phase → Type 0
 PhaseFits closings seals (Running e) = (seals + 1 ≡ e) × (e ≤ closings + 1)
 PhaseFits closings seals (Half e k) = (seals + 1 ≡ e) × (e ≤ closings) × (k < 16)

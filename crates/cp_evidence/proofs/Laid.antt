@@ -10,7 +10,7 @@ use Rattle.cp_chain.specs.Rules.{Rule, number_of}
 use Rattle.cp_chain.specs.Segment.{segment_text}
 use Rattle.cp_evidence.specs.Evidence.{evidence_text, broken_rule_text, given_text}
 use Rattle.cp_evidence.specs.Evidence.Evidence.{K7}
-use Rattle.cp_evidence.specs.Written.{given, laid_out}
+use Rattle.cp_evidence.specs.Written.{broken_rule_bytes, laid_out}
 
 -- what was kept of a list is kept of its front
 pub kept_through : (old mid new more : List ℕ) → mid ≡ old ++ more → take (length mid) new ≡ mid → take (length old) new ≡ old
@@ -31,13 +31,21 @@ grouped : (b r p o a1 a2 a3 a4 t s f g : List ℕ)
     → (b ++ (r ++ (p ++ (o ++ [])))) ++ ((a1 ++ (a2 ++ (a3 ++ (a4 ++ (t ++ (s ++ (f ++ []))))))) ++ g) ≡ b ++ (r ++ (p ++ (o ++ (((a1 ++ a2) ++ ((a3 ++ a4) ++ (t ++ s))) ++ (f ++ g)))))
 grouped b r p o a1 a2 a3 a4 t s f g = simp (append_assoc, append-nil)
 
--- the numbers and parts of a broken rule are its evidence
+-- the numbers and parts of a broken rule, whatever its number and its bytes are
+pub broken_rule_bytes_laid : (block rule place other : ℕ) (x y : Envelope) (t s f g : List ℕ)
+    → laid_out 7 (to_be_bytes w64 block ++ (to_be_bytes w64 rule ++ (to_be_bytes w64 place ++ (to_be_bytes w64 other ++ []))))
+    (part x.text ++ (part x.signature ++ (part y.text ++ (part y.signature ++ (part t ++ (part s ++ (part f ++ []))))))) g
+    ≡ broken_rule_bytes block rule place other (record { closing = x; before = y; table = t; table_before = s }) f g
+unfolding given_text envelope_text
+broken_rule_bytes_laid block rule place other x y t s f g =
+    ap (λ (l : List ℕ). codes "CPEV" ++ (7 ∷ l)) (grouped (to_be_bytes w64 block) (to_be_bytes w64 rule) (to_be_bytes w64 place) (to_be_bytes w64 other) (part x.text) (part x.signature) (part y.text) (part y.signature) (part t) (part s) (part f) g)
+
+-- they are its evidence, where the number is a rule's and the bytes are a segment's
 pub broken_rule_laid : (named : Rule) (texts : List (List ℕ)) (block rule place other : ℕ) (x y : Envelope) (t s f g : List ℕ) → number_of named ≡ rule → segment_text texts ≡ g
     → laid_out 7 (to_be_bytes w64 block ++ (to_be_bytes w64 rule ++ (to_be_bytes w64 place ++ (to_be_bytes w64 other ++ []))))
     (part x.text ++ (part x.signature ++ (part y.text ++ (part y.signature ++ (part t ++ (part s ++ (part f ++ []))))))) g
-    ≡ evidence_text (K7 (record { block = block; fault = record { rule = named; place = place; other = other }; given = given x y t s; families = f; segment = texts }))
-unfolding evidence_text broken_rule_text given_text envelope_text
+    ≡ evidence_text (K7 (record { block = block; fault = record { rule = named; place = place; other = other }; given = record { closing = x; before = y; table = t; table_before = s }; families = f; segment = texts }))
+unfolding evidence_text broken_rule_text
 broken_rule_laid named texts block rule place other x y t s f g is_rule is_segment =
-    let laid = grouped (to_be_bytes w64 block) (to_be_bytes w64 rule) (to_be_bytes w64 place) (to_be_bytes w64 other) (part x.text) (part x.signature) (part y.text) (part y.signature) (part t) (part s) (part f) g in
-    let grouped_text : ℕ → List ℕ → List ℕ = λ n bytes. codes "CPEV" ++ (7 ∷ (to_be_bytes w64 block ++ (to_be_bytes w64 n ++ (to_be_bytes w64 place ++ (to_be_bytes w64 other ++ (((part x.text ++ part x.signature) ++ ((part y.text ++ part y.signature) ++ (part t ++ part s))) ++ (part f ++ bytes))))))) in
-    ap (λ (l : List ℕ). codes "CPEV" ++ (7 ∷ l)) laid ∙ ap (λ (n : ℕ). grouped_text n g) (sym is_rule) ∙ ap (grouped_text (number_of named)) (sym is_segment)
+    let bytes : ℕ → List ℕ → List ℕ = λ n segment. broken_rule_bytes block n place other (record { closing = x; before = y; table = t; table_before = s }) f segment in
+    broken_rule_bytes_laid block rule place other x y t s f g ∙ ap (λ (n : ℕ). bytes n g) (sym is_rule) ∙ ap (bytes (number_of named)) (sym is_segment)

@@ -79,23 +79,38 @@ segment_beside o (Some a) = if is_outside (frame_for o a.block) a then [] else o
 abbrev pub lost_evidence : GivenEpoch → Envelope → Evidence
 lost_evidence o x = K8 (record { given = framing o; attestation = x; segment = segment_beside o (attestation_by (store_id o) x.text) })
 
--- The guilt of each kind, in the order in which it is taken: a text that is no statement, a wrong
--- head, another closing, two texts under one leaf, two texts at one position, a wrong link, a table
--- that is not well formed, a block that went back, an illegal segment, an attestation that is lost.
-abbrev pub guilt_by_kind : GivenEpoch → List Envelope → List (Option Evidence)
-guilt_by_kind o xs =
-    option_map K10 (find (λ x. not (is_statement (store_id o) x.text)) xs)
+-- ---- the kinds of guilt, in the order in which they are taken
+
+-- what one hand-in shows: no statement, a wrong head, another closing
+abbrev pub by_one : GivenEpoch → List Envelope → List (Option Evidence)
+by_one o xs = option_map K10 (find (λ x. not (is_statement (store_id o) x.text)) xs)
     ∷ option_map K9 (find (has_wrong_head (store_id o)) xs)
     ∷ first_of (map (other_closing o) xs)
-    ∷ option_map (λ p. K2 (record { x = p.0; y = p.1 })) (clash same_leaf [] (closing_envelopes o ++ xs))
+    ∷ []
+
+-- what two texts show: one leaf, one position
+abbrev pub by_two : GivenEpoch → List Envelope → List (Option Evidence)
+by_two o xs = option_map (λ p. K2 (record { x = p.0; y = p.1 })) (clash same_leaf [] (closing_envelopes o ++ xs))
     ∷ option_map (λ p. K1 (record { x = p.0; y = p.1 })) (clash (same_place (store_id o)) [] xs)
-    ∷ evidence_if (link_is_wrong o) (K5 (record { x = o.closing.envelope; y = envelope_before o.before }))
+    ∷ []
+
+-- what the closings and the tables show: a wrong link, a table that is not well formed, a block that
+-- went back
+abbrev pub by_tables : GivenEpoch → List (Option Evidence)
+by_tables o = evidence_if (link_is_wrong o) (K5 (record { x = o.closing.envelope; y = envelope_before o.before }))
     ∷ evidence_if (not (is_formed_before o.table_before (before_in o.before))) (K4 (record { closing = envelope_before o.before; table = o.table_before }))
     ∷ evidence_if (not (is_formed o.table o.closing.closing)) (K4 (record { closing = o.closing.envelope; table = o.table }))
     ∷ option_map (λ b. K6 (record { block = b; given = framing o })) (least_regressed (old_rows o) (new_rows o))
-    ∷ first_of (map (fault_in o) (parts_or_none o.log))
+    ∷ []
+
+-- what the log shows: an illegal segment, an attestation that is lost
+abbrev pub by_log : GivenEpoch → List Envelope → List (Option Evidence)
+by_log o xs = first_of (map (fault_in o) (parts_or_none o.log))
     ∷ option_map (lost_evidence o) (find (is_lost o) xs)
     ∷ []
+
+abbrev pub guilt_by_kind : GivenEpoch → List Envelope → List (Option Evidence)
+guilt_by_kind o xs = by_one o xs ++ (by_two o xs ++ (by_tables o ++ by_log o xs))
 
 -- the first of it, if there is any
 unfoldable pub guilt : GivenEpoch → List Envelope → Option Evidence

@@ -1,10 +1,13 @@
 -- What contracts see of the code's values.
-use Rattle.std.specs.Prelude.{ℕ, ◌-◌, ◌≡◌, ◌≤◌, List, Result, Ok, Err}
-use Rattle.cp_bytes.specs.Cursor.{Cursor}
-use Rattle.cp_statements.specs.declared.malformed.Malformed.{Malformed}
-use Rattle.cp_statements.specs.View.{envelope_view}
+use Rattle.std.specs.Prelude.{ℕ, List, Option, Some, None}
+use Rattle.cp_statements.specs.declared.envelope.Envelope.{Envelope}
+use Rattle.cp_statements.specs.View.{envelope_view, closing_view}
 use Rattle.cp_chain.specs.View.{fault_view}
 use Rattle.cp_evidence.specs.Evidence as spec
+use Rattle.cp_evidence.specs.Material as material
+use Rattle.cp_evidence.specs.declared.before.Before.{Before}
+use Rattle.cp_evidence.specs.declared.before.Before.TheVariants as before
+use Rattle.cp_evidence.specs.declared.before.SignedClosing.{SignedClosing}
 use Rattle.cp_evidence.specs.declared.two.Two.{Two}
 use Rattle.cp_evidence.specs.declared.closing_table.ClosingTable.{ClosingTable}
 use Rattle.cp_evidence.specs.declared.given.Given.{Given}
@@ -44,8 +47,22 @@ evidence_view (K8 e) = spec.Evidence.K8 (lost_view e)
 evidence_view (K9 x) = spec.Evidence.K9 (envelope_view x)
 evidence_view (K10 x) = spec.Evidence.K10 (envelope_view x)
 
--- The value, seen by `view`, is what the reading of the bytes left gives, and the cursor moves behind
--- it; a refusal names the offset of the field that does not fit.
-abbrev pub ReadsOn : {X Y : Type 0} → (X → Y) → Cursor → Cursor → Result X Malformed → Result (Y × List ℕ) ℕ → Type 0
-ReadsOn view old new (Ok x) read = (read ≡ Ok (view x, new.rest)) × (new.total ≡ old.total)
-ReadsOn view old new (Err e) read = (read ≡ Err (old.total - e.at)) × (e.at ≤ old.total)
+-- ---- of the closings
+
+abbrev pub signed_closing_view : SignedClosing → material.SignedClosing
+signed_closing_view c = record { envelope = envelope_view c.envelope; closing = closing_view c.closing }
+
+abbrev pub before_view : Before → Option material.SignedClosing
+before_view before.Nothing = None
+before_view (before.Closing c) = Some (signed_closing_view c)
+
+-- ---- of what a writer is given
+
+abbrev pub two_by : Envelope → Envelope → spec.Two
+two_by x y = record { x = envelope_view x; y = envelope_view y }
+
+abbrev pub table_by : Envelope → List ℕ → spec.ClosingTable
+table_by x t = record { closing = envelope_view x; table = t }
+
+abbrev pub given_by : Envelope → Envelope → List ℕ → List ℕ → spec.Given
+given_by x y t s = record { closing = envelope_view x; before = envelope_view y; table = t; table_before = s }

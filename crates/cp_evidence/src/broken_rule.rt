@@ -1,7 +1,7 @@
 //! A rule that a segment breaks.
 ghost use Rattle.cp_evidence.specs.Evidence.{rule_at, broken_rule_at};
 ghost use Rattle.cp_chain.specs.View.{rule_view};
-ghost use Rattle.cp_evidence.specs.View.{ReadsOn};
+ghost use Rattle.cp_statements.specs.Reading.{ReadsOn};
 
 use crate::Given;
 use cp_bytes::Cut;

@@ -35,8 +35,8 @@ pub enum Evidence<'a> {
 
 impl<'a> Evidence<'a> {
     ghost use Rattle.std.specs.Prelude.{◌-◌, ◌≤◌, length};
-    ghost use Rattle.cp_statements.specs.Reading.{Reads};
-    ghost use Rattle.cp_evidence.specs.View.{evidence_view, ReadsOn};
+    ghost use Rattle.cp_statements.specs.Reading.{Reads, ReadsOn};
+    ghost use Rattle.cp_evidence.specs.View.{evidence_view};
 
     // The parts of this kind, whose byte stands at the offset `at`.
     #[tactic(auto, unfolding(crate::specs::Evidence::parts_at))]
@@ -61,8 +61,9 @@ impl<'a> Evidence<'a> {
     }
 
     /// The evidence that all of the bytes spell: "CPEV", the kind as one byte, which is one of 1 to 10,
-    /// its numbers of eight bytes, big endian, and its parts, each behind its length of four bytes. A
-    /// rule's number outside 1 to 9 is refused at its first byte. It takes no memory.
+    /// its numbers of eight bytes, big endian, and its parts, each behind its length of four bytes; a
+    /// segment stands last, with no length before it. A rule's number outside 1 to 9 is refused at its
+    /// first byte. It takes no memory.
     #[tactic(auto, unfolding(crate::specs::Evidence::evidence_of))]
     pub fn read(bytes: &'a [u8]) -> Result<Evidence<'a>, Malformed>
         ensures { Reads evidence_view result (evidence_of bytes.now) }

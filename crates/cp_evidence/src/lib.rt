@@ -1,7 +1,9 @@
 //! Evidence: what can convict a store, as bytes, and which bytes convict it.
 #![tactic(auto)]
 
-pub mod audit_laws;
+mod attested;
+mod audit_laws;
+mod before;
 mod broken_rule;
 mod closing_table;
 mod evidence;
@@ -9,10 +11,14 @@ mod given;
 mod laws;
 mod layout;
 mod lost;
+mod store;
 mod two;
 mod went_back;
 mod writers;
 
+pub use attested::{head_fits, is_outside};
+pub use audit_laws::{clean_exactly, gets_are_latest, guilt_convicts, written_convicts};
+pub use before::{Before, SignedClosing};
 pub use broken_rule::BrokenRule;
 pub use closing_table::ClosingTable;
 pub use cp_bytes::OutOfMemory;
@@ -20,6 +26,7 @@ pub use evidence::Evidence;
 pub use given::Given;
 pub use laws::texts_are_exact;
 pub use lost::Lost;
+pub use store::Store;
 pub use two::Two;
 pub use went_back::WentBack;
 pub use writers::{

@@ -1,12 +1,11 @@
 //! Evidence, written. Each writer appends one kind's evidence, and where memory is wanted `out` stays
 //! as it was. Texts, signatures and parts are to have fewer than 2^32 bytes each: four bytes hold
 //! their lengths, and longer ones are read otherwise than they were meant.
-ghost use Rattle.std.specs.Prelude.{◌≡◌, List, ℕ, OnOk, OnErr};
+ghost use Rattle.std.specs.Prelude.{◌≡◌, ◌++◌, OnOk, OnErr};
 ghost use Rattle.cp_statements.specs.View.{envelope_view};
-ghost use Rattle.cp_chain.specs.Rules.{Rule, number_of};
-ghost use Rattle.cp_chain.specs.Segment.{segment_text};
-ghost use Rattle.cp_evidence.specs.Evidence.Evidence.{K1, K2, K3, K4, K5, K6, K7, K8, K9, K10};
-ghost use Rattle.cp_evidence.specs.Written.{two, given, Appends};
+ghost use Rattle.cp_evidence.specs.Evidence.Evidence.{K1, K2, K3, K4, K5, K6, K9, K10};
+ghost use Rattle.cp_evidence.specs.View.{two_by, table_by, given_by};
+ghost use Rattle.cp_evidence.specs.Written.{broken_rule_bytes, lost_bytes, two_bytes, Appends, AppendsBrokenRule, AppendsLost};
 
 use crate::layout::append;
 use cp_bytes::OutOfMemory;
@@ -14,57 +13,40 @@ use cp_statements::Envelope;
 
 /// Kind 1: two attestations of one position of a block.
 /// Appends it to `out`; `OutOfMemory` leaves `out` as it was.
-#[tactic(auto, unfolding(crate::specs::Evidence::evidence_text, crate::specs::Evidence::two_text, cp_statements::specs::Envelope::envelope_text))]
+#[tactic(auto, unfolding(crate::specs::Evidence::evidence_text))]
 pub fn write_k1(x: &Envelope, y: &Envelope, out: &mut Vec<u8>) -> Result<(), OutOfMemory>
-    ensures written { OnOk result (Appends out.old.items out.new.items (K1 (two (envelope_view x.now) (envelope_view y.now)))) }
+    ensures written { OnOk result (Appends out.old.items out.new.items (K1 (two_by x.now y.now))) }
     ensures unchanged { OnErr result (out.new.items ≡ out.old.items) }
 {
-    append(
-        out,
-        1,
-        &[],
-        &[x.text, x.signature, y.text, y.signature],
-        &[],
-    )
+    append_two(1, x, y, out)
 }
 
 /// Kind 2: two texts under one leaf.
 /// Appends it to `out`; `OutOfMemory` leaves `out` as it was.
-#[tactic(auto, unfolding(crate::specs::Evidence::evidence_text, crate::specs::Evidence::two_text, cp_statements::specs::Envelope::envelope_text))]
+#[tactic(auto, unfolding(crate::specs::Evidence::evidence_text))]
 pub fn write_k2(x: &Envelope, y: &Envelope, out: &mut Vec<u8>) -> Result<(), OutOfMemory>
-    ensures written { OnOk result (Appends out.old.items out.new.items (K2 (two (envelope_view x.now) (envelope_view y.now)))) }
+    ensures written { OnOk result (Appends out.old.items out.new.items (K2 (two_by x.now y.now))) }
     ensures unchanged { OnErr result (out.new.items ≡ out.old.items) }
 {
-    append(
-        out,
-        2,
-        &[],
-        &[x.text, x.signature, y.text, y.signature],
-        &[],
-    )
+    append_two(2, x, y, out)
 }
 
 /// Kind 3: two closings of one epoch.
 /// Appends it to `out`; `OutOfMemory` leaves `out` as it was.
-#[tactic(auto, unfolding(crate::specs::Evidence::evidence_text, crate::specs::Evidence::two_text, cp_statements::specs::Envelope::envelope_text))]
+#[tactic(auto, unfolding(crate::specs::Evidence::evidence_text))]
 pub fn write_k3(x: &Envelope, y: &Envelope, out: &mut Vec<u8>) -> Result<(), OutOfMemory>
-    ensures written { OnOk result (Appends out.old.items out.new.items (K3 (two (envelope_view x.now) (envelope_view y.now)))) }
+    ensures written { OnOk result (Appends out.old.items out.new.items (K3 (two_by x.now y.now))) }
     ensures unchanged { OnErr result (out.new.items ≡ out.old.items) }
 {
-    append(
-        out,
-        3,
-        &[],
-        &[x.text, x.signature, y.text, y.signature],
-        &[],
-    )
+    append_two(3, x, y, out)
 }
 
 /// Kind 4: the closing `x` and its table `t`, which isn't well formed.
 /// Appends it to `out`; `OutOfMemory` leaves `out` as it was.
 #[tactic(auto, unfolding(crate::specs::Evidence::evidence_text, crate::specs::Evidence::closing_table_text, cp_statements::specs::Envelope::envelope_text))]
 pub fn write_k4(x: &Envelope, t: &[u8], out: &mut Vec<u8>) -> Result<(), OutOfMemory>
-    ensures written { OnOk result (Appends out.old.items out.new.items (K4 (record { closing = envelope_view x.now; table = t.now }))) }
+    ensures written { OnOk result (Appends out.old.items out.new.items
+        (K4 (table_by x.now t.now))) }
     ensures unchanged { OnErr result (out.new.items ≡ out.old.items) }
 {
     append(out, 4, &[], &[x.text, x.signature, t], &[])
@@ -72,18 +54,12 @@ pub fn write_k4(x: &Envelope, t: &[u8], out: &mut Vec<u8>) -> Result<(), OutOfMe
 
 /// Kind 5: the closing `x`, whose link isn't to `y`, the closing before.
 /// Appends it to `out`; `OutOfMemory` leaves `out` as it was.
-#[tactic(auto, unfolding(crate::specs::Evidence::evidence_text, crate::specs::Evidence::two_text, cp_statements::specs::Envelope::envelope_text))]
+#[tactic(auto, unfolding(crate::specs::Evidence::evidence_text))]
 pub fn write_k5(x: &Envelope, y: &Envelope, out: &mut Vec<u8>) -> Result<(), OutOfMemory>
-    ensures written { OnOk result (Appends out.old.items out.new.items (K5 (two (envelope_view x.now) (envelope_view y.now)))) }
+    ensures written { OnOk result (Appends out.old.items out.new.items (K5 (two_by x.now y.now))) }
     ensures unchanged { OnErr result (out.new.items ≡ out.old.items) }
 {
-    append(
-        out,
-        5,
-        &[],
-        &[x.text, x.signature, y.text, y.signature],
-        &[],
-    )
+    append_two(5, x, y, out)
 }
 
 /// Kind 6: the block went back from the table `s` of the closing `y` to the table `t` of `x`.
@@ -98,7 +74,7 @@ pub fn write_k6<'a>(
     out: &mut Vec<u8>,
 ) -> Result<(), OutOfMemory>
     ensures written { OnOk result (Appends out.old.items out.new.items
-        (K6 (record { block = block; given = given (envelope_view x.now) (envelope_view y.now) t.now s.now }))) }
+        (K6 (record { block = block; given = given_by x.now y.now t.now s.now }))) }
     ensures unchanged { OnErr result (out.new.items ≡ out.old.items) }
 {
     append(
@@ -112,7 +88,8 @@ pub fn write_k6<'a>(
 
 /// Kind 7: the segment `g` of the block breaks the rule, a number of 1 to 9, at these places, under
 /// the families list `f` and in the frame of the closings and tables. `g` is to be a segment's bytes,
-/// its number of texts in front.
+/// its number of texts in front. Another number or other bytes are appended as they are, and are read
+/// otherwise or not at all.
 /// Appends it to `out`; `OutOfMemory` leaves `out` as it was.
 #[tactic(auto, unfolding(crate::specs::Evidence::evidence_text, crate::specs::Evidence::broken_rule_text, crate::specs::Evidence::given_text, cp_statements::specs::Envelope::envelope_text))]
 pub fn write_k7<'a>(
@@ -128,14 +105,10 @@ pub fn write_k7<'a>(
     g: &'a [u8],
     out: &mut Vec<u8>,
 ) -> Result<(), OutOfMemory>
-    ensures written { OnOk result ((named : Rule) (texts : List (List ℕ)) → number_of named ≡ rule → segment_text texts ≡ g.now
-        → Appends out.old.items out.new.items (K7 (record {
-          block = block;
-          fault = record { rule = named; place = place; other = other };
-          given = given (envelope_view x.now) (envelope_view y.now) t.now s.now;
-          families = f.now;
-          segment = texts;
-        }))) }
+    ensures laid { OnOk result (out.new.items ≡ out.old.items ++ broken_rule_bytes
+        block rule place other (given_by x.now y.now t.now s.now) f.now g.now) }
+    ensures written { OnOk result (AppendsBrokenRule out.old.items out.new.items
+        block rule place other (given_by x.now y.now t.now s.now) f.now g.now) }
     ensures unchanged { OnErr result (out.new.items ≡ out.old.items) }
 {
     append(
@@ -148,7 +121,8 @@ pub fn write_k7<'a>(
 }
 
 /// Kind 8: the attestation `a` is outside the counts of its block, or doesn't stand in the segment `g`.
-/// `g` is to be a segment's bytes, its number of texts in front.
+/// `g` is to be a segment's bytes, its number of texts in front; other bytes are appended as they are,
+/// and are read otherwise or not at all.
 /// Appends it to `out`; `OutOfMemory` leaves `out` as it was.
 #[tactic(auto, unfolding(crate::specs::Evidence::evidence_text, crate::specs::Evidence::lost_text, crate::specs::Evidence::given_text, cp_statements::specs::Envelope::envelope_text))]
 pub fn write_k8<'a>(
@@ -160,12 +134,10 @@ pub fn write_k8<'a>(
     g: &'a [u8],
     out: &mut Vec<u8>,
 ) -> Result<(), OutOfMemory>
-    ensures written { OnOk result ((texts : List (List ℕ)) → segment_text texts ≡ g.now
-        → Appends out.old.items out.new.items (K8 (record {
-          given = given (envelope_view x.now) (envelope_view y.now) t.now s.now;
-          attestation = envelope_view a.now;
-          segment = texts;
-        }))) }
+    ensures laid { OnOk result (out.new.items ≡ out.old.items ++ lost_bytes
+        (given_by x.now y.now t.now s.now) (envelope_view a.now) g.now) }
+    ensures written { OnOk result (AppendsLost out.old.items out.new.items
+        (given_by x.now y.now t.now s.now) (envelope_view a.now) g.now) }
     ensures unchanged { OnErr result (out.new.items ≡ out.old.items) }
 {
     append(
@@ -200,8 +172,25 @@ pub fn write_k9(a: &Envelope, out: &mut Vec<u8>) -> Result<(), OutOfMemory>
 /// Appends it to `out`; `OutOfMemory` leaves `out` as it was.
 #[tactic(auto, unfolding(crate::specs::Evidence::evidence_text, cp_statements::specs::Envelope::envelope_text))]
 pub fn write_k10(x: &Envelope, out: &mut Vec<u8>) -> Result<(), OutOfMemory>
-    ensures written { OnOk result (Appends out.old.items out.new.items (K10 (envelope_view x.now))) }
+    ensures written { OnOk result (Appends out.old.items out.new.items
+        (K10 (envelope_view x.now))) }
     ensures unchanged { OnErr result (out.new.items ≡ out.old.items) }
 {
     append(out, 10, &[], &[x.text, x.signature], &[])
+}
+
+// Appends evidence of a kind that is two signed texts.
+#[tactic(auto, unfolding(crate::specs::Evidence::two_text, cp_statements::specs::Envelope::envelope_text))]
+fn append_two(kind: u8, x: &Envelope, y: &Envelope, out: &mut Vec<u8>) -> Result<(), OutOfMemory>
+    ensures written { OnOk result (out.new.items
+        ≡ out.old.items ++ two_bytes kind (two_by x.now y.now)) }
+    ensures unchanged { OnErr result (out.new.items ≡ out.old.items) }
+{
+    append(
+        out,
+        kind,
+        &[],
+        &[x.text, x.signature, y.text, y.signature],
+        &[],
+    )
 }

@@ -3,3 +3,4 @@ pub mod Chunks
 pub mod Searching
 pub mod Exact
 pub mod Lying
+pub mod Refusing

@@ -5,3 +5,4 @@ pub mod View
 pub mod Checking
 pub mod Signed
 pub mod Laws
+pub mod Refusals

@@ -3,7 +3,7 @@ ghost use Rattle.std.specs.Prelude.{◌≡◌, map, None, Some, IfOk, IfSome, Is
 ghost use Rattle.cp_families.specs.Families.{family_rows_at, key_of};
 ghost use Rattle.lms_tree.specs.PublicKey.{key_reads};
 ghost use Rattle.cp_families.specs.Rows.{row_of, IsListed};
-ghost use Rattle.cp_families.specs.View.{ReadsOn};
+ghost use Rattle.cp_statements.specs.Reading.{ReadsOn};
 
 use crate::row::take_row;
 use cp_bytes::Cut;

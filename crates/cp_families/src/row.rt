@@ -1,7 +1,8 @@
 //! One row of a families list, as it is read.
 ghost use Rattle.std.specs.Prelude.{◌≡◌};
 ghost use Rattle.cp_families.specs.Families.{family_row_at, comes_after};
-ghost use Rattle.cp_families.specs.View.{row_view, row_before, ReadsOn};
+ghost use Rattle.cp_statements.specs.Reading.{ReadsOn};
+ghost use Rattle.cp_families.specs.View.{row_view, row_before};
 
 use cp_bytes::Cut;
 use cp_statements::Malformed;

@@ -4,9 +4,11 @@ ghost use Rattle.cp_evidence.specs.Conditions.{tried, Convicts};
 ghost use Rattle.cp_evidence.specs.View.{evidence_view};
 ghost use Rattle.cp_judge.specs.Judging.{judgement_of, IsGuilty};
 
+use crate::closings::try_k5;
+use crate::envelopes::{try_k1, try_k2, try_k3, try_k9, try_k10};
 use crate::judgement::Judgement;
-use crate::store::Store;
-use cp_evidence::Evidence;
+use crate::tables::{try_k4, try_k6, try_k7, try_k8};
+use cp_evidence::{Evidence, Store};
 use lms_tree::PublicKey;
 
 /// What the bytes of `evidence` are under the store's key of 56 bytes, from these bytes alone: the
@@ -26,28 +28,26 @@ pub fn judge(key: &[u8], evidence: &[u8]) -> Judgement
     };
     let store = Store::new(key);
     let kind = evidence.kind();
-    match store.try_all(&evidence) {
+    match try_all(&store, &evidence) {
         Ok(()) => Judgement::Guilty { kind },
         Err(condition) => Judgement::NotEvidence { kind, condition },
     }
 }
 
-impl Store {
-    // All conditions hold, or the number of the first one that fails.
-    fn try_all(&self, evidence: &Evidence) -> Result<(), u8>
-        ensures { result ≡ tried self.now.key (evidence_view evidence.now) }
-    {
-        match evidence {
-            Evidence::K1(e) => self.try_k1(e),
-            Evidence::K2(e) => self.try_k2(e),
-            Evidence::K3(e) => self.try_k3(e),
-            Evidence::K4(e) => self.try_k4(e),
-            Evidence::K5(e) => self.try_k5(e),
-            Evidence::K6(e) => self.try_k6(e),
-            Evidence::K7(e) => self.try_k7(e),
-            Evidence::K8(e) => self.try_k8(e),
-            Evidence::K9(x) => self.try_k9(x),
-            Evidence::K10(x) => self.try_k10(x),
-        }
+// All conditions hold, or the number of the first one that fails.
+fn try_all(store: &Store, evidence: &Evidence) -> Result<(), u8>
+    ensures { result ≡ tried store.now.key (evidence_view evidence.now) }
+{
+    match evidence {
+        Evidence::K1(e) => try_k1(store, e),
+        Evidence::K2(e) => try_k2(store, e),
+        Evidence::K3(e) => try_k3(store, e),
+        Evidence::K4(e) => try_k4(store, e),
+        Evidence::K5(e) => try_k5(store, e),
+        Evidence::K6(e) => try_k6(store, e),
+        Evidence::K7(e) => try_k7(store, e),
+        Evidence::K8(e) => try_k8(store, e),
+        Evidence::K9(x) => try_k9(store, x),
+        Evidence::K10(x) => try_k10(store, x),
     }
 }

@@ -26,8 +26,8 @@ pub enum LifeJudgement {
 #[tactic(auto, using(crate::proofs::LifeGuilt::lives))]
 pub fn judge_life(key: &[u8], certificate: &[u8], evidence: &[u8]) -> LifeJudgement
     ensures judged { result ≡ life_judgement_of key.now certificate.now evidence.now }
-    ensures convicts { IsLifeGuilty result
-        ↔ (IsTrue (certifies key.now certificate.now) × Convicts (life_key key.now certificate.now) evidence.now) }
+    ensures convicts { IsLifeGuilty result ↔ (IsTrue (certifies key.now certificate.now)
+        × Convicts (life_key key.now certificate.now) evidence.now) }
 {
     let Ok(key) = HssPublic::read(key) else {
         return LifeJudgement::BadKey;

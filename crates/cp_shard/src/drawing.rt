@@ -50,7 +50,7 @@ pub fn draw<L: LeafSource>(
 {
     match places.entry(key) {
         Err(_) => Err(CallRefusal::OutOfMemory),
-        Ok(Entry::Occupied(_)) => Err(CallRefusal::OutOfMemory),
+        Ok(Entry::Occupied(_)) => unreachable!(),
         Ok(Entry::Vacant(held)) => match draw_leaf(leaves, limit) {
             Err(refusal) => Err(refusal),
             Ok(leaf) => {
@@ -61,8 +61,42 @@ pub fn draw<L: LeafSource>(
     }
 }
 
-/// Places a put's content, draws a leaf, and keeps where the call stands with it. A refusal gives the
-/// pages back, and leaves the places and the pool as they were.
+/// Places a content and draws a leaf. A refusal gives the pages back, and leaves the pool as it was.
+fn place_leaf<L: LeafSource>(
+    pool: &mut Pool,
+    content: &[u8],
+    leaves: &mut L,
+    limit: u64,
+) -> Result<(u32, Run), CallRefusal>
+    requires limit { limit ≤ 2 ^ 32 }
+    requires len { length content.now ≤ 2 ^ 32 }
+    ensures below { IfOk result (λ r. r.0 < limit) }
+    ensures given { IfOk result (λ r. L.given leaves.new ≡ L.given leaves.old ++ r.0 ∷ []) }
+    ensures placed { IfOk result (λ r. IsPlaced pool.old pool.new content.now r.1) }
+    ensures fits { OnOk result (pages_for (length content.now) ≤ free_pages pool.old) }
+    ensures pool { OnErr result (pool.new ≡ pool.old) }
+    ensures none_given { OnErr result (L.given leaves.new ≡ L.given leaves.old) }
+    ensures found { L.found leaves.old ≤ L.found leaves.new }
+    ensures fixed { L.fixed leaves.new ≡ L.fixed leaves.old }
+    ensures late { IfErr result (IsLate (free_pages pool.old) (pages_for (length content.now)) limit (L.found leaves.new)) }
+{
+    match pool.place(content) {
+        Err(full) => Err(CallRefusal::PoolFull {
+            free: full.free,
+            need: full.need,
+        }),
+        Ok(run) => match draw_leaf(leaves, limit) {
+            Err(refusal) => {
+                pool.give_back(run);
+                Err(refusal)
+            }
+            Ok(leaf) => Ok((leaf, run)),
+        },
+    }
+}
+
+/// Makes room for where the call stands, places a put's content, draws a leaf, and keeps the place. A
+/// refusal gives the pages back, and leaves the places and the pool as they were.
 pub fn place_and_draw<L: LeafSource>(
     pool: &mut Pool,
     content: &[u8],
@@ -87,17 +121,15 @@ pub fn place_and_draw<L: LeafSource>(
     ensures fixed { L.fixed leaves.new ≡ L.fixed leaves.old }
     ensures late { IfErr result (IsLate (free_pages pool.old) (pages_for (length content.now)) limit (L.found leaves.new)) }
 {
-    match pool.place(content) {
-        Err(full) => Err(CallRefusal::PoolFull {
-            free: full.free,
-            need: full.need,
-        }),
-        Ok(run) => match draw(places, key, place, leaves, limit) {
-            Err(refusal) => {
-                pool.give_back(run);
-                Err(refusal)
+    match places.entry(key) {
+        Err(_) => Err(CallRefusal::OutOfMemory),
+        Ok(Entry::Occupied(_)) => unreachable!(),
+        Ok(Entry::Vacant(held)) => match place_leaf(pool, content, leaves, limit) {
+            Err(refusal) => Err(refusal),
+            Ok(drawn) => {
+                held.insert(place);
+                Ok(drawn)
             }
-            Ok(leaf) => Ok((leaf, run)),
         },
     }
 }

@@ -21,10 +21,9 @@ impl Shard {
     ///
     /// # Errors
     ///
-    /// As [`CallRefusal`] lists them, in that order, but that `PoolFull` comes before want of memory for
-    /// the index of calls; nothing changes then. All memory is taken before the leaf is drawn, and the
-    /// content's pages too; those of the content before it are given back behind it. Memory is wanted at
-    /// a new entry alone.
+    /// As [`CallRefusal`] lists them, in that order; nothing changes then. All memory is taken before
+    /// the content's pages, and these before the leaf is drawn; the pages of the content before it are
+    /// given back behind it. Memory is wanted at a new entry alone.
     pub fn put<L: LeafSource>(
         &mut self,
         alloc: Global,

@@ -14,3 +14,8 @@ Reads view (Err e) read = read ≡ Err e.at
 abbrev pub ReadsField : {X Y : Type 0} → (X → Y) → Cursor → Cursor → Result X Malformed → Result (Y × List ℕ) ℕ → Type 0
 ReadsField view old new (Ok x) read = (read ≡ Ok (view x, new.rest)) × (new.total ≡ old.total)
 ReadsField view old new (Err e) read = (read ≡ Err (old.total - e.at)) × (e.at ≤ old.total) × (new ≡ old)
+
+-- of a row of fields: the same, but a refusal says nothing of the cursor
+abbrev pub ReadsOn : {X Y : Type 0} → (X → Y) → Cursor → Cursor → Result X Malformed → Result (Y × List ℕ) ℕ → Type 0
+ReadsOn view old new (Ok x) read = (read ≡ Ok (view x, new.rest)) × (new.total ≡ old.total)
+ReadsOn view old new (Err e) read = (read ≡ Err (old.total - e.at)) × (e.at ≤ old.total)

@@ -89,9 +89,10 @@ impl<'a> Entry<'a> {
         }
     }
 
-    /// The tag and the fields that each entry has.
+    /// The tag and the fields that each entry has, 81 bytes. The signature is no part of them, so a
+    /// get's are its whole text.
     #[tactic(auto, unfolding(cp_bytes::specs::Fields::spell))]
-    fn fields_text(&self) -> [u8; 81]
+    pub fn fields_text(&self) -> [u8; 81]
         ensures { result ≡ tagged_text entry_tag entry_fields (entry_values (entry_view self.now)) }
     {
         joined(&[

@@ -15,18 +15,20 @@ pub struct Envelope<'a> {
 }
 
 impl<'a> Envelope<'a> {
-    ghost use Rattle.cp_bytes.specs.Reading.{ReadsOn};
+    ghost use Rattle.cp_bytes.specs.Reading.{Reads as ReadsPart};
     ghost use Rattle.cp_statements.specs.Reading.{Reads};
     ghost use Rattle.cp_statements.specs.View.{envelope_view};
 
     /// The envelope at the front of what is left: a text and a signature, each with a length of
-    /// four bytes, big endian, before it.
+    /// four bytes, big endian, before it. A refusal leaves the cursor as it was.
     #[tactic(auto, unfolding(crate::specs::Envelope::envelope_at))]
     pub fn take(cut: &mut Cut<'a>) -> Result<Envelope<'a>, Short>
-        ensures { ReadsOn envelope_view cut.old cut.new result (envelope_at cut.old.rest) }
+        ensures { ReadsPart envelope_view cut.old cut.new result (envelope_at cut.old.rest) }
     {
-        let text = cut.part()?;
-        let signature = cut.part()?;
+        let mut ahead = cut.copy();
+        let text = ahead.part()?;
+        let signature = ahead.part()?;
+        *cut = ahead;
         Ok(Envelope { text, signature })
     }
 

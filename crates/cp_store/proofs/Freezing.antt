@@ -358,8 +358,8 @@ later_now x y e is now = omega (arith, ap (λ (z : ShardModel). freezes z.items)
 
 -- ---- a store by shards
 
-pub inside_begins : (a : Inside) (c' : CloserState) (e : ℕ) → IsSharded a → a.closer.phase ≡ Running e → Ok tt ≡ begin_answer a.closer e → c' ≡ after_begin a.closer (Ok tt) → IsBegun (store_of a) a.shards.items a.closer c' a.leaves.next e
-inside_begins a c' e h at answer is = begins (store_of a) a.shards.items a.closer a.leaves.next e c' h.fits h.standing at answer is
+pub inside_begins : (a : Inside) (c' : CloserState) (e : ℕ) → IsSharded a → a.closer.phase ≡ Running e → Ok tt ≡ begin_answer a.closer e → c' ≡ after_begin a.closer (Ok tt) → IsBegun (store_of a) a.shards.items a.closer c' a.leaves e
+inside_begins a c' e h at answer is = begins (store_of a) a.shards.items a.closer a.leaves e c' h.fits h.standing at answer is
 
 pub inside_running : (a : Inside) (self : Standing) (e : ℕ) → standing_of a ≡ self → self.state.phase ≡ Running e → a.closer.phase ≡ Running e
 inside_running a self e is at = subst (λ (z : Standing). z.state.phase ≡ Running e) (sym is) at

@@ -56,10 +56,10 @@ pub opened_open : (s : Store) (st : State) → st ≡ machine.opening → HasFew
 opened_open s st is few = record { running = (1, ap (λ (x : State). x.phase) is); few = few }
 
 -- the whole of a new store
-pub new_sharded : (a : Inside) → a.shards.items ≡ map (blank_shard a.store a.pages a.closings) (numbers_below 16) → a.closer ≡ opening a.store (a.leaves.limit + a.closings) a.closings → a.leaves.next ≡ 0 → length a.store ≡ 32 → HasFewLeaves (store_of a) → IsOk (families_of a.families) → IsSharded a
+pub new_sharded : (a : Inside) → a.shards.items ≡ map (blank_shard a.store a.pages a.closings) (numbers_below 16) → a.closer ≡ opening a.store (a.attestations + a.closings) a.closings → a.leaves ≡ 0 → length a.store ≡ 32 → HasFewLeaves (store_of a) → IsOk (families_of a.families) → IsSharded a
 new_sharded a shards closer none id few list =
-    let new : IsNew (store_of a) a.shards.items a.closer a.leaves.next = opened (store_of a) a.shards.items a.closer a.leaves.next shards closer none in
-    record { standing = new.standing; between = opened_open (store_of a) (state_of a.shards.items a.closer a.leaves.next) new.state few; fits = record { id = id; leaves = omega (arith, few.leaves) }; list = list }
+    let new : IsNew (store_of a) a.shards.items a.closer a.leaves = opened (store_of a) a.shards.items a.closer a.leaves shards closer none in
+    record { standing = new.standing; between = opened_open (store_of a) (state_of a.shards.items a.closer a.leaves) new.state few; fits = record { id = id; leaves = omega (arith, few.leaves) }; list = list }
 
-pub new_state : (a : Inside) → a.shards.items ≡ map (blank_shard a.store a.pages a.closings) (numbers_below 16) → a.closer ≡ opening a.store (a.leaves.limit + a.closings) a.closings → a.leaves.next ≡ 0 → state_of a.shards.items a.closer a.leaves.next ≡ machine.opening
-new_state a shards closer none = (opened (store_of a) a.shards.items a.closer a.leaves.next shards closer none).state
+pub new_state : (a : Inside) → a.shards.items ≡ map (blank_shard a.store a.pages a.closings) (numbers_below 16) → a.closer ≡ opening a.store (a.attestations + a.closings) a.closings → a.leaves ≡ 0 → state_of a.shards.items a.closer a.leaves ≡ machine.opening
+new_state a shards closer none = (opened (store_of a) a.shards.items a.closer a.leaves shards closer none).state

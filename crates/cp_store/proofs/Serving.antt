@@ -1,32 +1,24 @@
 -- A call at its block's shard is the store's step.
-use Rattle.std.proofs.Common.{◌≡◌, ℕ, zero, suc, ◌+◌, ◌<◌, ◌≤◌, Bool, true, false, cond, not, eqb, ltb, List, [], ◌∷◌, ◌++◌, length, flat_map, get_or, set, Option, Some, None, Result, Ok, Err, refl, sym, ap, subst, ◌∙◌, inl, inr, arith}
-use Rattle.std.specs.Prelude.{bytes_eq}
+use Rattle.std.proofs.Common.{◌≡◌, ℕ, zero, suc, ◌+◌, ◌<◌, ◌≤◌, Bool, cond, eqb, List, [], ◌∷◌, ◌++◌, length, flat_map, get_or, set, Option, Some, None, Result, Ok, Err, refl, sym, ap, subst, ◌∙◌, inl, inr, arith}
 use Rattle.std.proofs.lemmas.Bool.{cases_eq, eq-eqb, ne_eqb, lt-ltb, le-ltb}
 use Rattle.std.proofs.lemmas.List.{append-nil, length-append, length-set, map-set, set-get_or, get_or-map, get_or-set_same, get_or-set_other}
-use Rattle.std.specs.List.{list_any}
-use Rattle.cp_core.proofs.CounterLemmas.{none_below}
 use Rattle.cp_core.specs.Store.{Store}
 use Rattle.cp_core.specs.Leaves.{numbers_below}
 use Rattle.cp_core.specs.Life.{RowItem, items_of, shard_of}
-use Rattle.cp_core.specs.Requests.{block_of, epoch_of, request_text, pages_of}
-use Rattle.cp_core.specs.Calls.{Outcome, content_at, shard_step, settled, with_leaf, unless_settled, again_entry, first_refused, at_found, found, is_overtaken, is_stale, asked_text, epoch_now, pages_free}
-use Rattle.cp_core.specs.Calls.Outcome.{Same}
+use Rattle.cp_core.specs.Requests.{block_of}
+use Rattle.cp_core.specs.Calls.{Outcome, content_at, new_row, shard_step, settled, with_leaf, unless_settled}
+use Rattle.cp_core.specs.Calls.Outcome.{Same, New}
 use Rattle.cp_core.specs.Machine.{step, step_in, after_call, appended, next_leaf}
 use Rattle.cp_core.specs.declared.answer.Answer.{Answer}
-use Rattle.cp_core.specs.declared.answer.Answer.TheVariants.{CallRefused}
-use Rattle.cp_core.specs.declared.call_refusal.CallRefusal.TheVariants as refusal
 use Rattle.cp_core.specs.declared.content.Content.{Content}
 use Rattle.cp_core.specs.declared.event.Event.TheVariants.{Call}
 use Rattle.cp_core.specs.declared.item.Item.{Item}
 use Rattle.cp_core.specs.declared.leaves_over.LeavesOver.{LeavesOver}
 use Rattle.cp_core.specs.declared.request.Request.{Request}
-use Rattle.cp_statements.specs.Entry.{Entry, entry_of}
 use Rattle.cp_closer.specs.Closer.{CloserState}
 use Rattle.cp_shard.specs.Model.{ShardModel}
 use Rattle.cp_shard.specs.Steps.{step_of}
 use Rattle.cp_store.specs.Shards.{IsMade, AreMade, own_contents, items_in, state_of}
-use Rattle.cp_store.specs.declared.leaves.Leaves.{Leaves}
-use Rattle.cp_store.specs.Leaves.{given_by}
 use Rattle.cp_store.proofs.Blocks.{step_same}
 use Rattle.cp_store.proofs.ShardContents.{contents_there}
 
@@ -46,25 +38,16 @@ last_is : (xs : List ℕ) (a b : ℕ) → xs ++ a ∷ [] ≡ xs ++ b ∷ [] → 
 last_is [] a b e = head_is a b [] [] e
 last_is (x ∷ xs) a b e = last_is xs a b (tail_is x x (xs ++ a ∷ []) (xs ++ b ∷ []) e)
 
--- the next one was not given before
-pub fresh_leaf : (limit next : ℕ) → next < limit → list_any (λ x. eqb x next) (limit ∷ numbers_below next) ≡ false
-fresh_leaf limit next lt = rw (ne_eqb limit next (λ e. omega (arith, e, lt))) (none_below next next (omega arith))
-
 -- none was given: none was drawn
-pub given_none : (l l' : Leaves) → given_by l' ≡ given_by l → (l'.limit ≡ l.limit) × (l'.next ≡ l.next)
-given_none l l' e = (
-  head_is l'.limit l.limit (numbers_below l'.next) (numbers_below l.next) e,
-  sym (length-numbers l'.next) ∙ ap length (tail_is l'.limit l.limit (numbers_below l'.next) (numbers_below l.next) e) ∙ length-numbers l.next,
-)
+pub given_none : (n n' : ℕ) → numbers_below n' ≡ numbers_below n → n' ≡ n
+given_none n n' e = sym (length-numbers n') ∙ ap length e ∙ length-numbers n
 
 -- one was given: it is the next one
-pub given_one : (l l' : Leaves) (leaf : ℕ) → given_by l' ≡ given_by l ++ leaf ∷ [] → (l'.limit ≡ l.limit) × (l'.next ≡ l.next + 1) × (leaf ≡ l.next)
-given_one l l' leaf e =
-    let rest : numbers_below l'.next ≡ numbers_below l.next ++ leaf ∷ [] = tail_is l'.limit l.limit (numbers_below l'.next) (numbers_below l.next ++ leaf ∷ []) e in
-    let more : l'.next ≡ suc l.next = omega (arith, length-numbers l'.next, ap length rest, length-append (numbers_below l.next) (leaf ∷ []), length-numbers l.next) in (
-      head_is l'.limit l.limit (numbers_below l'.next) (numbers_below l.next ++ leaf ∷ []) e,
+pub given_one : (n n' leaf : ℕ) → numbers_below n' ≡ numbers_below n ++ leaf ∷ [] → (n' ≡ n + 1) × (leaf ≡ n)
+given_one n n' leaf e =
+    let more : n' ≡ suc n = omega (arith, length-numbers n', ap length e, length-append (numbers_below n) (leaf ∷ []), length-numbers n) in (
       omega (arith, more),
-      last_is (numbers_below l.next) leaf l.next (sym rest ∙ ap numbers_below more),
+      last_is (numbers_below n) leaf n (sym e ∙ ap numbers_below more),
     )
 
 -- ---- the step, by its leaf source's answers
@@ -82,58 +65,14 @@ pub settled_always : (x : ShardModel) (pass : ℕ) (request : Request) (leaf : �
 unfolding shard_step
 settled_always x pass request leaf answer other e = same_always (settled x.store x.pages x.items x.contents request) x.store x.items x.contents pass request leaf answer other e
 
--- no rule before the leaf refuses for the leaf
-abbrev NeverOver : Option Answer → Type 0
-NeverOver o = (over : LeavesOver) → o ≡ Some (CallRefused (refusal.LeavesOver over)) → ⊥
+leaf_always : (o : Option Answer) (store : List ℕ) (items : List Item) (c : List Content) (pass : ℕ) (request : Request) (leaf : ℕ) (answer : Answer) (row : RowItem) → unless_settled o (with_leaf store items c pass request (Ok leaf)) ≡ New answer row → row.leaf ≡ leaf
+leaf_always (Some a) store items c pass request leaf answer row e = absurd cc
+leaf_always None store items c pass request leaf answer row e = let same : new_row items pass request leaf ≡ row = cc in sym (ap (λ (r : RowItem). r.leaf) same)
 
-abbrev is_over : Answer → Bool
-is_over (CallRefused (refusal.LeavesOver over)) = true
-is_over answer = false
-
-either : (t u : Bool) (a b d : Answer) → is_over a ≡ false → is_over b ≡ false → is_over d ≡ false → is_over (cond t a (cond u b d)) ≡ false
-either true u a b d x y z = x
-either false true a b d x y z = y
-either false false a b d x y z = z
-
-again_over : (store : List ℕ) (items : List Item) (c : List Content) (request : Request) (leaf : ℕ) (e : Result Entry ℕ) → is_over (again_entry store items c request leaf e) ≡ false
-unfolding again_entry
-again_over store items c request leaf (Err left) = refl
-again_over store items c request leaf (Ok e) = either (not (bytes_eq (asked_text store e) (request_text request))) (is_overtaken items e) _ _ _ refl refl refl
-
-not_over : (a : Answer) → is_over a ≡ false → NeverOver (Some a)
-not_over a f over e = let same : a ≡ CallRefused (refusal.LeavesOver over) = cc in let t : true ≡ false = sym (ap is_over same) ∙ f in absurd cc
-
-none_over : NeverOver None
-none_over over e = absurd cc
-
-first_over : (t u : Bool) (a b : Answer) → is_over a ≡ false → is_over b ≡ false → NeverOver (cond t (Some a) (cond u (Some b) None))
-first_over true u a b x y = not_over a x
-first_over false true a b x y = not_over b y
-first_over false false a b x y = none_over
-
-found_over : (store : List ℕ) (pages : ℕ) (items : List Item) (c : List Content) (request : Request) (f : Option RowItem) → NeverOver (at_found store pages items c request f)
-unfolding first_refused
-found_over store pages items c request (Some r) = not_over _ (again_over store items c request r.leaf (entry_of r.entry))
-found_over store pages items c request None = first_over (is_stale items request) (ltb (pages_free pages items) (pages_of request)) _ _ refl refl
-
-settled_over : (store : List ℕ) (pages : ℕ) (items : List Item) (c : List Content) (request : Request) → NeverOver (settled store pages items c request)
-unfolding settled
-settled_over store pages items c request = go (not (eqb (epoch_of request) (epoch_now items)))
-  where
-    go : (t : Bool) → NeverOver (cond t (Some (CallRefused (refusal.WrongEpoch (epoch_now items)))) (at_found store pages items c request (found items request)))
-    go true = not_over _ refl
-    go false = found_over store pages items c request (found items request)
-
-over_is : (o : Option Answer) (store : List ℕ) (items : List Item) (c : List Content) (pass : ℕ) (request : Request) (over other : LeavesOver) → NeverOver o
-    → unless_settled o (with_leaf store items c pass request (Err over)) ≡ Same (CallRefused (refusal.LeavesOver over)) → unless_settled o (with_leaf store items c pass request (Err other)) ≡ Same (CallRefused (refusal.LeavesOver other))
-over_is (Some a) store items c pass request over other never e = let same : a ≡ CallRefused (refusal.LeavesOver over) = cc in absurd (never over (ap Some same))
-over_is None store items c pass request over other never e = refl
-
--- a call that is refused for the leaf is so whatever was found drawn
-pub over_always : (x : ShardModel) (pass : ℕ) (request : Request) (over other : LeavesOver) → step_of x pass request (Err over) ≡ Same (CallRefused (refusal.LeavesOver over)) → step_of x pass request (Err other) ≡ Same (CallRefused (refusal.LeavesOver other))
+-- the row that a leaf leads to has that leaf
+pub row_leaf : (x : ShardModel) (pass : ℕ) (request : Request) (leaf : ℕ) (answer : Answer) (row : RowItem) → step_of x pass request (Ok leaf) ≡ New answer row → row.leaf ≡ leaf
 unfolding shard_step
-over_always x pass request over other e =
-    over_is (settled x.store x.pages x.items x.contents request) x.store x.items x.contents pass request over other (settled_over x.store x.pages x.items x.contents request) e
+row_leaf x pass request leaf answer row e = leaf_always (settled x.store x.pages x.items x.contents request) x.store x.items x.contents pass request leaf answer row e
 
 -- ---- the shard's step is the store's
 

@@ -1,6 +1,6 @@
 -- A store by shards stands rightly after each call.
-use Rattle.std.proofs.Common.{◌≡◌, ℕ, ◌+◌, ◌<◌, ◌≤◌, Bool, true, false, cond, eqb, List, [], ◌∷◌, ◌++◌, flat_map, get_or, set, Option, Some, None, Result, Ok, Err, refl, sym, ap, subst, ◌∙◌, inl, inr, arith}
-use Rattle.std.proofs.lemmas.Bool.{cases_lt, lt-ltb, eqb-true, eqb-false}
+use Rattle.std.proofs.Common.{◌≡◌, ℕ, ◌+◌, ◌<◌, ◌≤◌, Bool, true, false, cond, eqb, List, [], ◌∷◌, ◌++◌, flat_map, get_or, set, Option, Some, None, Result, Ok, Err, refl, sym, ap, subst, ◌∙◌, arith}
+use Rattle.std.proofs.lemmas.Bool.{eqb-true, eqb-false}
 use Rattle.std.proofs.lemmas.List.{append-nil, set-get_or}
 use Rattle.std.specs.Prelude.{IfOk, OnOk, OnErr}
 use Rattle.cp_chain.proofs.Each.{each_last}
@@ -14,6 +14,7 @@ use Rattle.cp_core.specs.Life.{RowItem, row_item, freezes, items_of, shard_of}
 use Rattle.cp_core.specs.Requests.{block_of}
 use Rattle.cp_core.specs.Calls.{Outcome, content_at, latest_of}
 use Rattle.cp_core.specs.Calls.Outcome.{Same, New}
+use Rattle.cp_core.specs.Leaves.{numbers_below}
 use Rattle.cp_core.specs.Honest.{Honest, IsItemOf, IsRowOf}
 use Rattle.cp_core.specs.Kept.{Keeps, PhaseFits, IsContentOf}
 use Rattle.cp_core.specs.Machine.{State, Admissible, step, with_row, next_leaf, content_in, with_content, appended}
@@ -31,16 +32,14 @@ use Rattle.cp_core.specs.declared.request.Request.{Request}
 use Rattle.cp_closer.specs.Closer.{CloserState}
 use Rattle.cp_closer.specs.Laws.{IsCloserOf}
 use Rattle.cp_shard.specs.Model.{ShardModel}
-use Rattle.cp_shard.specs.Steps.{answer_in, added, contents_after, drawn, step_of}
+use Rattle.cp_shard.specs.Steps.{answer_in, added, contents_after, drawn, step_of, AddsBelow}
 use Rattle.cp_store.specs.Alike.{Alike}
 use Rattle.cp_store.specs.Shards.{AreMade, own_contents, state_of, IsStanding}
 use Rattle.cp_store.specs.Served.{answered, IsBooked, IsRefused, IsServed}
-use Rattle.cp_store.specs.declared.leaves.Leaves.{Leaves}
-use Rattle.cp_store.specs.Leaves.{given_by, found_by}
 use Rattle.cp_store.proofs.Alikes.{alike_refl, alike_sym, alike_eq, with_contents, is_with, more_at}
 use Rattle.cp_store.proofs.Parts.{closer_row}
 use Rattle.cp_store.proofs.ShardContents.{contents_there}
-use Rattle.cp_store.proofs.Serving.{given_none, given_one, settled_always, over_always, call_is, next_is, next_none, low, made_set, life_same, life_more, contents_set}
+use Rattle.cp_store.proofs.Serving.{given_none, given_one, settled_always, row_leaf, call_is, next_is, next_none, low, made_set, life_same, life_more, contents_set}
 
 -- ---- what is kept is kept alike
 
@@ -152,105 +151,90 @@ called_new s shards c n e pass request d y answer row fits st phase ok o now ite
 -- ---- by what the shard answers
 
 -- the store after the call
-abbrev pub IsServedStore : Store → List ShardModel → CloserState → Leaves → ℕ → Request → ShardModel → Leaves → Option Answer → Type 0
-IsServedStore s shards c l pass request y l' (Some answer) = IsCalled s shards c l.next pass request (set shards (shard_of (block_of request)) y) l'.next answer
-IsServedStore s shards c l pass request y l' None = IsStanding s (set shards (shard_of (block_of request)) y) c l'.next × Alike (state_of (set shards (shard_of (block_of request)) y) c l'.next) (state_of shards c l.next)
+abbrev pub IsServedStore : Store → List ShardModel → CloserState → ℕ → ℕ → Request → ShardModel → ℕ → Option Answer → Type 0
+IsServedStore s shards c n pass request y n' (Some answer) = IsCalled s shards c n pass request (set shards (shard_of (block_of request)) y) n' answer
+IsServedStore s shards c n pass request y n' None = IsStanding s (set shards (shard_of (block_of request)) y) c n' × Alike (state_of (set shards (shard_of (block_of request)) y) c n') (state_of shards c n)
 
-booked_case : (s : Store) (shards : List ShardModel) (c : CloserState) (l l' : Leaves) (e pass : ℕ) (request : Request) (d y : ShardModel) (b : Booking) (o : Outcome) → StoreFits s → IsStanding s shards c l.next → c.phase ≡ Running e → Admissible s (Call pass request)
-    → l.limit ≡ s.attestations → l'.next ≤ l'.limit → IsBooked (get_or shards (shard_of (block_of request)) d) y l l' pass request b → step_of (get_or shards (shard_of (block_of request)) d) pass request (Ok b.leaf) ≡ o
-    → IsCalled s shards c l.next pass request (set shards (shard_of (block_of request)) y) l'.next (Booked b)
-booked_case s shards c l l' e pass request d y b (Same answer) fits st phase ok limit within h is =
+booked_case : (s : Store) (shards : List ShardModel) (c : CloserState) (n n' e pass : ℕ) (request : Request) (d y : ShardModel) (b : Booking) (o : Outcome) → StoreFits s → IsStanding s shards c n → c.phase ≡ Running e → Admissible s (Call pass request)
+    → IsBooked (get_or shards (shard_of (block_of request)) d) y n n' s.attestations pass request b → step_of (get_or shards (shard_of (block_of request)) d) pass request (Ok b.leaf) ≡ o
+    → IsCalled s shards c n pass request (set shards (shard_of (block_of request)) y) n' (Booked b)
+booked_case s shards c n n' e pass request d y b (Same answer) fits st phase ok h is =
     let k : ℕ = shard_of (block_of request) in
     let x : ShardModel = get_or shards k d in
     let now = made_set s shards k d y st.made (low (block_of request)) h.store h.index h.pages h.closings in
-    let drawn_none = given_none l l' (h.given ∙ ap (λ (o : Outcome). given_by l ++ drawn o b.leaf) is ∙ append-nil _) in
+    let none : n' ≡ n = given_none n n' (h.given ∙ ap (λ (o : Outcome). numbers_below n ++ drawn o b.leaf) is ∙ append-nil _) in
     let answer_is : answer ≡ Booked b = sym (ap answer_in is) ∙ h.answer in
-    let r = called_same s shards c l.next pass request d y answer st (settled_always x pass request b.leaf answer (next_leaf s l.next) is) now (h.items ∙ ap (λ (o : Outcome). x.items ++ added o) is) (λ block. h.contents block ∙ ap (λ (o : Outcome). content_at (contents_after o request x.contents) block) is) in
-    subst (λ (m : ℕ). IsCalled s shards c l.next pass request (set shards k y) m (Booked b)) (sym drawn_none.1) (subst (IsCalled s shards c l.next pass request (set shards k y) l.next) answer_is r)
-booked_case s shards c l l' e pass request d y b (New answer row) fits st phase ok limit within h is =
+    let r = called_same s shards c n pass request d y answer st (settled_always x pass request b.leaf answer (next_leaf s n) is) now (h.items ∙ ap (λ (o : Outcome). x.items ++ added o) is) (λ block. h.contents block ∙ ap (λ (o : Outcome). content_at (contents_after o request x.contents) block) is) in
+    subst (λ (m : ℕ). IsCalled s shards c n pass request (set shards k y) m (Booked b)) (sym none) (subst (IsCalled s shards c n pass request (set shards k y) n) answer_is r)
+booked_case s shards c n n' e pass request d y b (New answer row) fits st phase ok h is =
     let k : ℕ = shard_of (block_of request) in
     let x : ShardModel = get_or shards k d in
     let now = made_set s shards k d y st.made (low (block_of request)) h.store h.index h.pages h.closings in
-    let one = given_one l l' b.leaf (h.given ∙ ap (λ (o : Outcome). given_by l ++ drawn o b.leaf) is) in
-    let lt : l.next < s.attestations = omega (arith, within, one.0, one.1, limit) in
-    let next : Ok b.leaf ≡ next_leaf s l.next = ap Ok one.2 ∙ sym (next_is s l.next lt) in
+    let one = given_one n n' b.leaf (h.given ∙ ap (λ (o : Outcome). numbers_below n ++ drawn o b.leaf) is) in
+    let below : row.leaf < s.attestations = subst (λ (o : Outcome). AddsBelow o s.attestations) is h.below in
     let answer_is : answer ≡ Booked b = sym (ap answer_in is) ∙ h.answer in
-    let r = called_new s shards c l.next e pass request d y answer row fits st phase ok (ap (step_of x pass request) (sym next) ∙ is) now (h.items ∙ ap (λ (o : Outcome). x.items ++ added o) is) (λ block. h.contents block ∙ ap (λ (o : Outcome). content_at (contents_after o request x.contents) block) is) in
-    subst (λ (m : ℕ). IsCalled s shards c l.next pass request (set shards k y) m (Booked b)) (sym one.1) (subst (IsCalled s shards c l.next pass request (set shards k y) (l.next + 1)) answer_is r)
+    let lt : n < s.attestations = omega (arith, below, row_leaf x pass request b.leaf answer row is, one.1) in
+    let next : Ok b.leaf ≡ next_leaf s n = ap Ok one.1 ∙ sym (next_is s n lt) in
+    let r = called_new s shards c n e pass request d y answer row fits st phase ok (ap (step_of x pass request) (sym next) ∙ is) now (h.items ∙ ap (λ (o : Outcome). x.items ++ added o) is) (λ block. h.contents block ∙ ap (λ (o : Outcome). content_at (contents_after o request x.contents) block) is) in
+    subst (λ (m : ℕ). IsCalled s shards c n pass request (set shards k y) m (Booked b)) (sym one.0) (subst (IsCalled s shards c n pass request (set shards k y) (n + 1)) answer_is r)
 
 -- the shards where one is put back as it was
 back : (shards : List ShardModel) (k : ℕ) (d y : ShardModel) → y ≡ get_or shards k d → set shards k y ≡ shards
 back shards k d y same = ap (set shards k) same ∙ set-get_or shards k d
 
-refused_called : (s : Store) (shards : List ShardModel) (c : CloserState) (l l' : Leaves) (pass : ℕ) (request : Request) (d y : ShardModel) (answer : Answer) → IsStanding s shards c l.next → y ≡ get_or shards (shard_of (block_of request)) d → l'.next ≡ l.next
-    → step_of (get_or shards (shard_of (block_of request)) d) pass request (next_leaf s l.next) ≡ Same answer → IsCalled s shards c l.next pass request (set shards (shard_of (block_of request)) y) l'.next answer
-refused_called s shards c l l' pass request d y answer st same next o =
+refused_called : (s : Store) (shards : List ShardModel) (c : CloserState) (n n' pass : ℕ) (request : Request) (d y : ShardModel) (answer : Answer) → IsStanding s shards c n → y ≡ get_or shards (shard_of (block_of request)) d → n' ≡ n
+    → step_of (get_or shards (shard_of (block_of request)) d) pass request (next_leaf s n) ≡ Same answer → IsCalled s shards c n pass request (set shards (shard_of (block_of request)) y) n' answer
+refused_called s shards c n n' pass request d y answer st same next o =
     let k : ℕ = shard_of (block_of request) in
-    let is : step s (state_of shards c l.next) (Call pass request) ≡ (answer, state_of shards c l.next) = call_is s shards c l.next pass request d (Same answer) st.made o in
-    let r : IsCalled s shards c l.next pass request shards l.next answer = record {
+    let is : step s (state_of shards c n) (Call pass request) ≡ (answer, state_of shards c n) = call_is s shards c n pass request d (Same answer) st.made o in
+    let r : IsCalled s shards c n pass request shards n answer = record {
       standing = st;
       answer_is = sym (ap (λ (x : Answer × State). x.0) is);
-      alike = subst (λ (x : Answer × State). Alike (state_of shards c l.next) x.1) (sym is) (alike_refl (state_of shards c l.next));
+      alike = subst (λ (x : Answer × State). Alike (state_of shards c n) x.1) (sym is) (alike_refl (state_of shards c n));
     } in
-    subst (λ (m : ℕ). IsCalled s shards c l.next pass request (set shards k y) m answer) (sym next) (subst (λ (xs : List ShardModel). IsCalled s shards c l.next pass request xs l.next answer) (sym (back shards k d y same)) r)
+    subst (λ (m : ℕ). IsCalled s shards c n pass request (set shards k y) m answer) (sym next) (subst (λ (xs : List ShardModel). IsCalled s shards c n pass request xs n answer) (sym (back shards k d y same)) r)
 
-none_left : (l l' : Leaves) (over : LeavesOver) → l'.limit ≡ l.limit → l'.next ≡ l.next → over.drawn ≡ found_by l' → l.limit ≤ over.drawn → l.limit ≤ l.next
-none_left l l' over limit next found le = elim (cases_lt l'.next l'.limit) [
-  | inl lt ↦
-      let is : found_by l' ≡ l'.next = ap (λ (b : Bool). cond b l'.next l'.refused) (lt-ltb l'.next l'.limit lt) in
-      absurd (omega (arith, lt, is, found, le, limit, next))
-  | inr ge ↦ omega (arith, ge, limit, next)
-]
+-- all leaves were found drawn where all are
+over_is : (s : Store) (n n' : ℕ) (over : LeavesOver) → n' ≡ n → over.drawn ≡ n' → over.limit ≡ s.attestations → s.attestations ≤ over.drawn → next_leaf s n ≡ Err over
+over_is s n n' over same found limit le =
+    next_none s n (omega (arith, same, found, le)) ∙ ap (λ (m : ℕ). Err (record { drawn = m; limit = s.attestations })) (sym (found ∙ same)) ∙ ap (λ (m : ℕ). Err (record { drawn = over.drawn; limit = m })) (sym limit)
 
-refused_case : (s : Store) (shards : List ShardModel) (c : CloserState) (l l' : Leaves) (pass : ℕ) (request : Request) (d y : ShardModel) (why : CallRefusal) → IsStanding s shards c l.next → l.limit ≡ s.attestations
-    → IsRefused (get_or shards (shard_of (block_of request)) d) y l l' pass request why → IsServedStore s shards c l pass request y l' (answered (Err why) l'.next l'.limit)
-refused_case s shards c l l' pass request d y refusal.OutOfMemory st limit h =
+refused_case : (s : Store) (shards : List ShardModel) (c : CloserState) (n n' pass : ℕ) (request : Request) (d y : ShardModel) (why : CallRefusal) → IsStanding s shards c n
+    → IsRefused (get_or shards (shard_of (block_of request)) d) y n n' s.attestations pass request why → IsServedStore s shards c n pass request y n' (answered (Err why))
+refused_case s shards c n n' pass request d y refusal.OutOfMemory st h =
     let same = back shards (shard_of (block_of request)) d y h.same in
-    let next = (given_none l l' h.given).1 in (
-      subst (λ (m : ℕ). IsStanding s (set shards (shard_of (block_of request)) y) c m) (sym next) (subst (λ (xs : List ShardModel). IsStanding s xs c l.next) (sym same) st),
-      alike_eq _ _ (ap (λ (xs : List ShardModel). state_of xs c l'.next) same ∙ ap (state_of shards c) next),
+    let next : n' ≡ n = given_none n n' h.given in (
+      subst (λ (m : ℕ). IsStanding s (set shards (shard_of (block_of request)) y) c m) (sym next) (subst (λ (xs : List ShardModel). IsStanding s xs c n) (sym same) st),
+      alike_eq _ _ (ap (λ (xs : List ShardModel). state_of xs c n') same ∙ ap (state_of shards c) next),
     )
-refused_case s shards c l l' pass request d y (refusal.LeavesOver over) st limit h =
-    let none = given_none l l' h.given in
-    let left : l.limit ≤ l.next = none_left l l' over none.0 none.1 h.refuses.1 h.refuses.3 in
-    let other : LeavesOver = record { drawn = l.next; limit = s.attestations } in
-    let told : record { drawn = l'.next; limit = l'.limit } ≡ other = ap (λ (m : ℕ). record { drawn = m; limit = l'.limit }) none.1 ∙ ap (λ (m : ℕ). record { drawn = l.next; limit = m }) (none.0 ∙ limit) in
-    let o = ap (step_of (get_or shards (shard_of (block_of request)) d) pass request) (next_none s l.next (omega (arith, left, limit))) ∙ over_always (get_or shards (shard_of (block_of request)) d) pass request over other h.refuses.0 in
-    subst (λ (x : LeavesOver). IsCalled s shards c l.next pass request (set shards (shard_of (block_of request)) y) l'.next (CallRefused (refusal.LeavesOver x))) (sym told)
-    (refused_called s shards c l l' pass request d y (CallRefused (refusal.LeavesOver other)) st h.same none.1 o)
-refused_case s shards c l l' pass request d y (refusal.WrongEpoch current) st limit h = refused_called s shards c l l' pass request d y (CallRefused (refusal.WrongEpoch current)) st h.same (given_none l l' h.given).1 (h.refuses (next_leaf s l.next))
-refused_case s shards c l l' pass request d y (refusal.NonceUsed at) st limit h = refused_called s shards c l l' pass request d y (CallRefused (refusal.NonceUsed at)) st h.same (given_none l l' h.given).1 (h.refuses (next_leaf s l.next))
-refused_case s shards c l l' pass request d y (refusal.Overtaken latest) st limit h = refused_called s shards c l l' pass request d y (CallRefused (refusal.Overtaken latest)) st h.same (given_none l l' h.given).1 (h.refuses (next_leaf s l.next))
-refused_case s shards c l l' pass request d y (refusal.StaleVersion latest) st limit h = refused_called s shards c l l' pass request d y (CallRefused (refusal.StaleVersion latest)) st h.same (given_none l l' h.given).1 (h.refuses (next_leaf s l.next))
-refused_case s shards c l l' pass request d y (refusal.PoolFull free need) st limit h = refused_called s shards c l l' pass request d y (CallRefused (refusal.PoolFull free need)) st h.same (given_none l l' h.given).1 (h.refuses (next_leaf s l.next))
+refused_case s shards c n n' pass request d y (refusal.LeavesOver over) st h =
+    let none : n' ≡ n = given_none n n' h.given in
+    let next : next_leaf s n ≡ Err over = over_is s n n' over none h.refuses.1 h.refuses.2 h.refuses.3 in
+    refused_called s shards c n n' pass request d y (CallRefused (refusal.LeavesOver over)) st h.same none (ap (step_of (get_or shards (shard_of (block_of request)) d) pass request) next ∙ h.refuses.0)
+refused_case s shards c n n' pass request d y (refusal.WrongEpoch current) st h = refused_called s shards c n n' pass request d y (CallRefused (refusal.WrongEpoch current)) st h.same (given_none n n' h.given) (h.refuses (next_leaf s n))
+refused_case s shards c n n' pass request d y (refusal.NonceUsed at) st h = refused_called s shards c n n' pass request d y (CallRefused (refusal.NonceUsed at)) st h.same (given_none n n' h.given) (h.refuses (next_leaf s n))
+refused_case s shards c n n' pass request d y (refusal.Overtaken latest) st h = refused_called s shards c n n' pass request d y (CallRefused (refusal.Overtaken latest)) st h.same (given_none n n' h.given) (h.refuses (next_leaf s n))
+refused_case s shards c n n' pass request d y (refusal.StaleVersion latest) st h = refused_called s shards c n n' pass request d y (CallRefused (refusal.StaleVersion latest)) st h.same (given_none n n' h.given) (h.refuses (next_leaf s n))
+refused_case s shards c n n' pass request d y (refusal.PoolFull free need) st h = refused_called s shards c n n' pass request d y (CallRefused (refusal.PoolFull free need)) st h.same (given_none n n' h.given) (h.refuses (next_leaf s n))
 
-pub served : (s : Store) (shards : List ShardModel) (c : CloserState) (l l' : Leaves) (e pass : ℕ) (request : Request) (d y : ShardModel) (outcome : Result Booking CallRefusal) → StoreFits s → IsStanding s shards c l.next → c.phase ≡ Running e → Admissible s (Call pass request)
-    → l.limit ≡ s.attestations → l'.next ≤ l'.limit → IsServed (get_or shards (shard_of (block_of request)) d) y l l' pass request outcome → IsServedStore s shards c l pass request y l' (answered outcome l'.next l'.limit)
-served s shards c l l' e pass request d y (Ok b) fits st phase ok limit within h = booked_case s shards c l l' e pass request d y b _ fits st phase ok limit within h refl
-served s shards c l l' e pass request d y (Err why) fits st phase ok limit within h = refused_case s shards c l l' pass request d y why st limit h
-
--- the number of leaves stays
-pub limit_stays : (x y : ShardModel) (l l' : Leaves) (pass : ℕ) (request : Request) (outcome : Result Booking CallRefusal) → IsServed x y l l' pass request outcome → l'.limit ≡ l.limit
-limit_stays x y l l' pass request (Ok b) h = go (step_of x pass request (Ok b.leaf)) h.given
-  where
-    go : (o : Outcome) → given_by l' ≡ given_by l ++ drawn o b.leaf → l'.limit ≡ l.limit
-    go (Same answer) e = (given_none l l' (e ∙ append-nil _)).0
-    go (New answer row) e = (given_one l l' b.leaf e).0
-limit_stays x y l l' pass request (Err why) h = (given_none l l' h.given).0
+pub served : (s : Store) (shards : List ShardModel) (c : CloserState) (n n' e pass : ℕ) (request : Request) (d y : ShardModel) (outcome : Result Booking CallRefusal) → StoreFits s → IsStanding s shards c n → c.phase ≡ Running e → Admissible s (Call pass request)
+    → IsServed (get_or shards (shard_of (block_of request)) d) y n n' s.attestations pass request outcome → IsServedStore s shards c n pass request y n' (answered outcome)
+served s shards c n n' e pass request d y (Ok b) fits st phase ok h = booked_case s shards c n n' e pass request d y b _ fits st phase ok h refl
+served s shards c n n' e pass request d y (Err why) fits st phase ok h = refused_case s shards c n n' pass request d y why st h
 
 -- ---- what a call returns
 
-pub record IsReturned {E : Type 0} (s : Store) (shards : List ShardModel) (c : CloserState) (l : Leaves) (pass : ℕ) (request : Request) (y : ShardModel) (l' : Leaves) (r : Result Answer E) : Type 0 where
-  pub standing : IsStanding s (set shards (shard_of (block_of request)) y) c l'.next
-  pub answer : IfOk r (λ a. a ≡ (step s (state_of shards c l.next) (Call pass request)).0)
-  pub after : OnOk r (Alike (state_of (set shards (shard_of (block_of request)) y) c l'.next) (step s (state_of shards c l.next) (Call pass request)).1)
-  pub unchanged : OnErr r (Alike (state_of (set shards (shard_of (block_of request)) y) c l'.next) (state_of shards c l.next))
+pub record IsReturned {E : Type 0} (s : Store) (shards : List ShardModel) (c : CloserState) (n pass : ℕ) (request : Request) (y : ShardModel) (n' : ℕ) (r : Result Answer E) : Type 0 where
+  pub standing : IsStanding s (set shards (shard_of (block_of request)) y) c n'
+  pub answer : IfOk r (λ a. a ≡ (step s (state_of shards c n) (Call pass request)).0)
+  pub after : OnOk r (Alike (state_of (set shards (shard_of (block_of request)) y) c n') (step s (state_of shards c n) (Call pass request)).1)
+  pub unchanged : OnErr r (Alike (state_of (set shards (shard_of (block_of request)) y) c n') (state_of shards c n))
 
-pub returned : {E : Type 0} (s : Store) (shards : List ShardModel) (c : CloserState) (l : Leaves) (pass : ℕ) (request : Request) (y : ShardModel) (l' : Leaves) (o : Option Answer) (r : Result Answer E) → IsServedStore s shards c l pass request y l' o
-    → IfOk r (λ a. o ≡ Some a) → OnErr r (o ≡ None) → IsReturned s shards c l pass request y l' r
-returned s shards c l pass request y l' o (Ok a) h said memory =
-    let called : IsCalled s shards c l.next pass request (set shards (shard_of (block_of request)) y) l'.next a = subst (IsServedStore s shards c l pass request y l') said h in
+pub returned : {E : Type 0} (s : Store) (shards : List ShardModel) (c : CloserState) (n pass : ℕ) (request : Request) (y : ShardModel) (n' : ℕ) (o : Option Answer) (r : Result Answer E) → IsServedStore s shards c n pass request y n' o
+    → IfOk r (λ a. o ≡ Some a) → OnErr r (o ≡ None) → IsReturned s shards c n pass request y n' r
+returned s shards c n pass request y n' o (Ok a) h said memory =
+    let called : IsCalled s shards c n pass request (set shards (shard_of (block_of request)) y) n' a = subst (IsServedStore s shards c n pass request y n') said h in
     record { standing = called.standing; answer = called.answer_is; after = called.alike; unchanged = tt }
-returned s shards c l pass request y l' o (Err e) h said memory =
-    let same : IsServedStore s shards c l pass request y l' None = subst (IsServedStore s shards c l pass request y l') memory h in
+returned s shards c n pass request y n' o (Err e) h said memory =
+    let same : IsServedStore s shards c n pass request y n' None = subst (IsServedStore s shards c n pass request y n') memory h in
     record { standing = same.0; answer = tt; after = tt; unchanged = same.1 }

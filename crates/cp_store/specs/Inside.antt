@@ -9,13 +9,13 @@ use Rattle.cp_store.specs.Shards.{state_of, IsStanding}
 use Rattle.cp_store.specs.declared.sharded.Sharded.TheInside.{Inside}
 
 abbrev pub store_of : Inside → Store
-store_of a = record { id = a.store; families = a.families; attestations = a.leaves.limit; closings = a.closings; pages = a.pages }
+store_of a = record { id = a.store; families = a.families; attestations = a.attestations; closings = a.closings; pages = a.pages }
 
 abbrev pub standing_of : Inside → Standing
-standing_of a = record { store = store_of a; state = state_of a.shards.items a.closer a.leaves.next }
+standing_of a = record { store = store_of a; state = state_of a.shards.items a.closer a.leaves }
 
 pub record IsSharded (a : Inside) : Type 0 where
-  pub standing : IsStanding (store_of a) a.shards.items a.closer a.leaves.next
+  pub standing : IsStanding (store_of a) a.shards.items a.closer a.leaves
   pub between : IsOpen (standing_of a)
   pub fits : StoreFits (store_of a)
   pub list : IsOk (families_of a.families)

@@ -2,7 +2,6 @@ pub mod Alike
 pub mod Closes
 pub mod Running
 pub mod Logs
-pub mod Leaves
 pub mod Shards
 pub mod Served
 pub mod Inside

@@ -8,7 +8,7 @@ ghost use Rattle.cp_statements.specs.View.{put_request_view};
 ghost use Rattle.cp_store.specs.Served.{answered};
 
 use crate::{Answer, OutOfMemory};
-use cp_core::{Booked, CallRefusal, LeavesOver};
+use cp_core::{Booked, CallRefusal};
 use cp_families::{Families, VerifiedPut};
 use cp_statements::{Envelope, PutRequest};
 
@@ -38,22 +38,14 @@ pub(crate) fn verified<'a>(
     put
 }
 
-/// The answer to a call that a shard served, where so many of these leaves are drawn then.
-pub(crate) fn answered(
-    outcome: Result<Booked, CallRefusal>,
-    drawn: u64,
-    limit: u64,
-) -> Result<Answer, OutOfMemory>
-    ensures said { IfOk result (λ answer. answered outcome drawn limit ≡ Some answer) }
-    ensures memory { OnErr result (answered outcome drawn limit ≡ None) }
+/// The answer to a call that a shard served.
+pub(crate) fn answered(outcome: Result<Booked, CallRefusal>) -> Result<Answer, OutOfMemory>
+    ensures said { IfOk result (λ answer. answered outcome ≡ Some answer) }
+    ensures memory { OnErr result (answered outcome ≡ None) }
 {
     match outcome {
         Ok(booked) => Ok(Answer::Booked(booked)),
         Err(CallRefusal::OutOfMemory) => Err(OutOfMemory),
-        Err(CallRefusal::LeavesOver(_)) => {
-            let over = LeavesOver { drawn, limit };
-            Ok(Answer::CallRefused(CallRefusal::LeavesOver(over)))
-        }
         Err(refusal) => Ok(Answer::CallRefused(refusal)),
     }
 }

@@ -5,9 +5,7 @@
 mod answering;
 mod by;
 mod closing;
-mod drawing;
 pub mod laws;
-mod leaves;
 mod log;
 mod plain;
 mod segment;

@@ -12,10 +12,10 @@ ghost use Rattle.cp_store.specs.Shards.{blank_shard};
 
 use crate::answering::{answered, verified};
 use crate::closing::finish;
-use crate::leaves::Leaves;
 use crate::{Answer, CloseRefusal, OutOfMemory, Request, SealedText};
 use cp_bytes::Bytes;
 use cp_closer::{Closer, Phase};
+use cp_core::Counter;
 use cp_shard::Shard;
 use cp_statements::{GetRequest, PutRequest};
 use std::alloc::Global;
@@ -28,14 +28,16 @@ pub(crate) struct Sharded {
     pub(crate) store: [u8; 32],
     /// The text of its families list.
     pub(crate) families: Bytes,
+    /// The number of leaves for attestations.
+    pub(crate) attestations: u64,
     /// The number of leaves for closings.
     pub(crate) closings: u32,
     /// The number of pages of each shard.
     pub(crate) pages: u32,
     /// The shards.
     pub(crate) shards: Vec<Shard>,
-    /// The leaves for attestations.
-    pub(crate) leaves: Leaves,
+    /// The leaves for attestations, as they are drawn.
+    pub(crate) leaves: Counter,
     /// The closer, which has taken what the shards handed over of the epochs before.
     pub(crate) closer: Closer,
 }
@@ -92,10 +94,11 @@ impl Sharded {
         Ok(Sharded {
             store,
             families: Bytes::from_vec(families),
+            attestations,
             closings,
             pages,
             shards,
-            leaves: Leaves::new(attestations),
+            leaves: Counter::new(),
             closer,
         })
     }
@@ -108,10 +111,10 @@ impl Sharded {
         ensures unchanged { OnErr result (Alike self.new.state self.old.state) }
         ensures store { self.new.store ≡ self.old.store }
     {
-        let limit = self.leaves.limit;
+        let limit = self.attestations;
         let shard = (request.block % 16) as usize;
         let outcome = self.shards[shard].get(alloc, &mut self.leaves, limit, pass, request);
-        answered(outcome, self.leaves.next, self.leaves.limit)
+        answered(outcome)
     }
 
     /// A put at the block's shard.
@@ -129,7 +132,7 @@ impl Sharded {
         ensures unchanged { OnErr result (Alike self.new.state self.old.state) }
         ensures store { self.new.store ≡ self.old.store }
     {
-        let limit = self.leaves.limit;
+        let limit = self.attestations;
         let shard = (request.block % 16) as usize;
         let text = request.text();
         let put = verified(
@@ -140,7 +143,7 @@ impl Sharded {
             signature,
         );
         let outcome = self.shards[shard].put(alloc, &mut self.leaves, limit, pass, &put, content);
-        answered(outcome, self.leaves.next, self.leaves.limit)
+        answered(outcome)
     }
 
     /// A call at the block's shard.
@@ -194,6 +197,7 @@ impl Sharded {
         let Sharded {
             store,
             families,
+            attestations,
             closings,
             pages,
             mut shards,
@@ -205,6 +209,7 @@ impl Sharded {
             let same = Sharded {
                 store,
                 families,
+                attestations,
                 closings,
                 pages,
                 shards,
@@ -217,6 +222,7 @@ impl Sharded {
         let next = Sharded {
             store,
             families,
+            attestations,
             closings,
             pages,
             shards,

@@ -9,10 +9,10 @@ use Rattle.cp_statements.specs.declared.envelope.Envelope as code
 use Rattle.cp_evidence.specs.Material.{closing_envelopes}
 use Rattle.cp_evidence.specs.Verdict.{clash}
 use Rattle.cp_evidence.specs.declared.two.Two.{Two}
-use Rattle.cp_audit.specs.declared.closings.Before.{Before}
+use Rattle.cp_evidence.specs.declared.before.Before.{Before}
 use Rattle.cp_audit.specs.Firsts.{KeepsFirsts, differ, kept_in, leaf_key, pair_view, same_by}
 use Rattle.cp_audit.specs.Given.{given_view}
-use Rattle.cp_audit.specs.View.{before_view}
+use Rattle.cp_evidence.specs.View.{before_view}
 use Rattle.cp_audit.proofs.FirstLemmas.{keeps_none}
 use Rattle.cp_audit.proofs.PassLemmas.{on_ok}
 use Rattle.cp_audit.proofs.clash.given_clash.Goals as goal

@@ -3,9 +3,9 @@ use Rattle.std.specs.Prelude.{map}
 use Rattle.cp_statements.specs.View.{envelope_view}
 use Rattle.cp_chain.specs.Rules.{first_of, or_else}
 use Rattle.cp_evidence.specs.Evidence.{Evidence}
+use Rattle.cp_evidence.specs.Verdict.{by_one, by_two, by_tables, by_log}
 use Rattle.cp_audit.specs.Given.{given_view}
 use Rattle.cp_audit.specs.Rows.{Writes}
-use Rattle.cp_audit.specs.Verdicts.{by_one, by_two, by_tables, by_log}
 use Rattle.cp_audit.proofs.GuiltLemmas.{here, there, grouped}
 use Rattle.cp_audit.proofs.RowLemmas.{WritesOut}
 use Rattle.cp_audit.proofs.guilt.guilt.Goals as goal

@@ -1,5 +1,5 @@
-use Rattle.cp_shard.proofs.Runs.{placed_back}
+use Rattle.std.proofs.Common.{rules}
 use Rattle.cp_shard.proofs.drawing.place_and_draw.Goals as goal
 
-pub returns-in-Err-draw-clause-pool : goal.returns-in-Err-draw-clause-pool
-returns-in-Err-draw-clause-pool g c = placed_back _ _ _ _ _ c.in-Ok.ensures.placed c.give_back.ensures.given_back
+pub returns-in-Ok-clause-places : goal.returns-in-Ok-clause-places
+returns-in-Ok-clause-places g c = λ k. let put = (c.in-Ok-Vacant.ensures.update.0 c.args.place).0 k in search rules

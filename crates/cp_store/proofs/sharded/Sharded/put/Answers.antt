@@ -15,27 +15,27 @@ verified-put-requires-clause-signed c = admitted_signed c.args.self.now.store (p
 pub invariant_of-self : goal.invariant_of-self
 invariant_of-self c =
     (called c.self.inside c.args.self.now c.index_mut.result.now c.put-outcome.new.self c.put-outcome.new.leaves c.args.pass (ask.Put c.args.request.now c.args.signature.now c.args.content.now) c.put-outcome.result c.answered.result c.self.view_is c.self.invariant c.requires c.index_mut.ensures.value
-    (subst (λ (q : Request). IsServed c.index_mut.result.now c.put-outcome.new.self c.self.inside.leaves c.put-outcome.new.leaves c.args.pass q c.put-outcome.result) (put_is c.verified-put.result c.args.request.now c.args.signature.now c.args.content.now c.verified-put.ensures.request c.verified-put.ensures.signature)
-    (put_served c.index_mut.result.now c.put-outcome.new.self c.self.inside.leaves c.put-outcome.new.leaves c.args.pass (put_of c.verified-put.result c.args.content.now) c.put-outcome.result c.put-outcome.ensures.answer c.put-outcome.ensures.items c.put-outcome.ensures.contents c.put-outcome.ensures.given c.put-outcome.ensures.store c.put-outcome.ensures.index c.put-outcome.ensures.pages c.put-outcome.ensures.closings c.put-outcome.ensures.refused c.put-outcome.ensures.unchanged c.put-outcome.ensures.none_given))
+    (subst (λ (q : Request). IsServed c.index_mut.result.now c.put-outcome.new.self c.self.inside.leaves c.put-outcome.new.leaves c.self.inside.attestations c.args.pass q c.put-outcome.result) (put_is c.verified-put.result c.args.request.now c.args.signature.now c.args.content.now c.verified-put.ensures.request c.verified-put.ensures.signature)
+    (put_served c.index_mut.result.now c.put-outcome.new.self c.self.inside.leaves c.put-outcome.new.leaves c.self.inside.attestations c.args.pass (put_of c.verified-put.result c.args.content.now) c.put-outcome.result c.put-outcome.ensures.answer c.put-outcome.ensures.items c.put-outcome.ensures.contents c.put-outcome.ensures.below c.put-outcome.ensures.given c.put-outcome.ensures.store c.put-outcome.ensures.index c.put-outcome.ensures.pages c.put-outcome.ensures.closings c.put-outcome.ensures.refused c.put-outcome.ensures.unchanged c.put-outcome.ensures.none_given))
     c.answered.ensures.said c.answered.ensures.memory).sharded
 
 pub returns-clause-answer : goal.returns-clause-answer
 returns-clause-answer c =
     (called c.self.inside c.args.self.now c.index_mut.result.now c.put-outcome.new.self c.put-outcome.new.leaves c.args.pass (ask.Put c.args.request.now c.args.signature.now c.args.content.now) c.put-outcome.result c.answered.result c.self.view_is c.self.invariant c.requires c.index_mut.ensures.value
-    (subst (λ (q : Request). IsServed c.index_mut.result.now c.put-outcome.new.self c.self.inside.leaves c.put-outcome.new.leaves c.args.pass q c.put-outcome.result) (put_is c.verified-put.result c.args.request.now c.args.signature.now c.args.content.now c.verified-put.ensures.request c.verified-put.ensures.signature)
-    (put_served c.index_mut.result.now c.put-outcome.new.self c.self.inside.leaves c.put-outcome.new.leaves c.args.pass (put_of c.verified-put.result c.args.content.now) c.put-outcome.result c.put-outcome.ensures.answer c.put-outcome.ensures.items c.put-outcome.ensures.contents c.put-outcome.ensures.given c.put-outcome.ensures.store c.put-outcome.ensures.index c.put-outcome.ensures.pages c.put-outcome.ensures.closings c.put-outcome.ensures.refused c.put-outcome.ensures.unchanged c.put-outcome.ensures.none_given))
+    (subst (λ (q : Request). IsServed c.index_mut.result.now c.put-outcome.new.self c.self.inside.leaves c.put-outcome.new.leaves c.self.inside.attestations c.args.pass q c.put-outcome.result) (put_is c.verified-put.result c.args.request.now c.args.signature.now c.args.content.now c.verified-put.ensures.request c.verified-put.ensures.signature)
+    (put_served c.index_mut.result.now c.put-outcome.new.self c.self.inside.leaves c.put-outcome.new.leaves c.self.inside.attestations c.args.pass (put_of c.verified-put.result c.args.content.now) c.put-outcome.result c.put-outcome.ensures.answer c.put-outcome.ensures.items c.put-outcome.ensures.contents c.put-outcome.ensures.below c.put-outcome.ensures.given c.put-outcome.ensures.store c.put-outcome.ensures.index c.put-outcome.ensures.pages c.put-outcome.ensures.closings c.put-outcome.ensures.refused c.put-outcome.ensures.unchanged c.put-outcome.ensures.none_given))
     c.answered.ensures.said c.answered.ensures.memory).answer
 
 pub returns-clause-after : goal.returns-clause-after
 returns-clause-after c =
     (called c.self.inside c.args.self.now c.index_mut.result.now c.put-outcome.new.self c.put-outcome.new.leaves c.args.pass (ask.Put c.args.request.now c.args.signature.now c.args.content.now) c.put-outcome.result c.answered.result c.self.view_is c.self.invariant c.requires c.index_mut.ensures.value
-    (subst (λ (q : Request). IsServed c.index_mut.result.now c.put-outcome.new.self c.self.inside.leaves c.put-outcome.new.leaves c.args.pass q c.put-outcome.result) (put_is c.verified-put.result c.args.request.now c.args.signature.now c.args.content.now c.verified-put.ensures.request c.verified-put.ensures.signature)
-    (put_served c.index_mut.result.now c.put-outcome.new.self c.self.inside.leaves c.put-outcome.new.leaves c.args.pass (put_of c.verified-put.result c.args.content.now) c.put-outcome.result c.put-outcome.ensures.answer c.put-outcome.ensures.items c.put-outcome.ensures.contents c.put-outcome.ensures.given c.put-outcome.ensures.store c.put-outcome.ensures.index c.put-outcome.ensures.pages c.put-outcome.ensures.closings c.put-outcome.ensures.refused c.put-outcome.ensures.unchanged c.put-outcome.ensures.none_given))
+    (subst (λ (q : Request). IsServed c.index_mut.result.now c.put-outcome.new.self c.self.inside.leaves c.put-outcome.new.leaves c.self.inside.attestations c.args.pass q c.put-outcome.result) (put_is c.verified-put.result c.args.request.now c.args.signature.now c.args.content.now c.verified-put.ensures.request c.verified-put.ensures.signature)
+    (put_served c.index_mut.result.now c.put-outcome.new.self c.self.inside.leaves c.put-outcome.new.leaves c.self.inside.attestations c.args.pass (put_of c.verified-put.result c.args.content.now) c.put-outcome.result c.put-outcome.ensures.answer c.put-outcome.ensures.items c.put-outcome.ensures.contents c.put-outcome.ensures.below c.put-outcome.ensures.given c.put-outcome.ensures.store c.put-outcome.ensures.index c.put-outcome.ensures.pages c.put-outcome.ensures.closings c.put-outcome.ensures.refused c.put-outcome.ensures.unchanged c.put-outcome.ensures.none_given))
     c.answered.ensures.said c.answered.ensures.memory).after
 
 pub returns-clause-unchanged : goal.returns-clause-unchanged
 returns-clause-unchanged c =
     (called c.self.inside c.args.self.now c.index_mut.result.now c.put-outcome.new.self c.put-outcome.new.leaves c.args.pass (ask.Put c.args.request.now c.args.signature.now c.args.content.now) c.put-outcome.result c.answered.result c.self.view_is c.self.invariant c.requires c.index_mut.ensures.value
-    (subst (λ (q : Request). IsServed c.index_mut.result.now c.put-outcome.new.self c.self.inside.leaves c.put-outcome.new.leaves c.args.pass q c.put-outcome.result) (put_is c.verified-put.result c.args.request.now c.args.signature.now c.args.content.now c.verified-put.ensures.request c.verified-put.ensures.signature)
-    (put_served c.index_mut.result.now c.put-outcome.new.self c.self.inside.leaves c.put-outcome.new.leaves c.args.pass (put_of c.verified-put.result c.args.content.now) c.put-outcome.result c.put-outcome.ensures.answer c.put-outcome.ensures.items c.put-outcome.ensures.contents c.put-outcome.ensures.given c.put-outcome.ensures.store c.put-outcome.ensures.index c.put-outcome.ensures.pages c.put-outcome.ensures.closings c.put-outcome.ensures.refused c.put-outcome.ensures.unchanged c.put-outcome.ensures.none_given))
+    (subst (λ (q : Request). IsServed c.index_mut.result.now c.put-outcome.new.self c.self.inside.leaves c.put-outcome.new.leaves c.self.inside.attestations c.args.pass q c.put-outcome.result) (put_is c.verified-put.result c.args.request.now c.args.signature.now c.args.content.now c.verified-put.ensures.request c.verified-put.ensures.signature)
+    (put_served c.index_mut.result.now c.put-outcome.new.self c.self.inside.leaves c.put-outcome.new.leaves c.self.inside.attestations c.args.pass (put_of c.verified-put.result c.args.content.now) c.put-outcome.result c.put-outcome.ensures.answer c.put-outcome.ensures.items c.put-outcome.ensures.contents c.put-outcome.ensures.below c.put-outcome.ensures.given c.put-outcome.ensures.store c.put-outcome.ensures.index c.put-outcome.ensures.pages c.put-outcome.ensures.closings c.put-outcome.ensures.refused c.put-outcome.ensures.unchanged c.put-outcome.ensures.none_given))
     c.answered.ensures.said c.answered.ensures.memory).unchanged

@@ -13,8 +13,8 @@ chains-preserved c =
     let end = c.ends_of_four-ends.ensures in
     let key : ℕ → List ℕ = λ k. chain c.args.id.now k c.chains.i 0 (max_digit (width_of c.args.t)) (secret_start c.args.id.now k c.chains.i c.args.secret.now) in
     record {
-      first = end-more _ q _ _ _ _ _ _ _ refl held.first c.put-in-chains.ensures (end 0 (omega arith) ∙ ap key same);
-      second = end-more _ (q + 1) _ _ _ _ _ _ _ refl held.second c.put-in-chains-2.ensures (end 1 (omega arith));
-      third = end-more _ (q + 2) _ _ _ _ _ _ _ refl held.third c.put-in-chains-3.ensures (end 2 (omega arith));
-      fourth = end-more _ (q + 3) _ _ _ _ _ _ _ refl held.fourth c.put-in-chains-4.ensures (end 3 (omega arith));
+      first = end-more _ q _ _ _ _ _ _ _ refl held.first c.put-in-chains.ensures.written (end 0 (omega arith) ∙ ap key same);
+      second = end-more _ (q + 1) _ _ _ _ _ _ _ refl held.second c.put-in-chains-2.ensures.written (end 1 (omega arith));
+      third = end-more _ (q + 2) _ _ _ _ _ _ _ refl held.third c.put-in-chains-3.ensures.written (end 2 (omega arith));
+      fourth = end-more _ (q + 3) _ _ _ _ _ _ _ refl held.fourth c.put-in-chains-4.ensures.written (end 3 (omega arith));
     }
