@@ -7,6 +7,7 @@ use Rattle.lms_tree.specs.declared.height.Height.{Height}
 use Rattle.lms_tree.specs.declared.height.Height.TheVariants.{H5, H10, H15}
 use Rattle.cp_commands.specs.ClientWords.{CallWords, PutWords, GetWords, AcceptWords}
 use Rattle.cp_commands.specs.AuditWords.{AuditWords}
+use Rattle.cp_commands.specs.MoreWords.{CertifyWords, ForgeryWords}
 use Rattle.cp_commands.specs.Numbers.{number_in, number_given}
 use Rattle.cp_commands.specs.ReplayWords.{ReplayWords}
 use Rattle.cp_commands.specs.declared.by.By.{By}
@@ -21,6 +22,9 @@ pub data Command : Type 0 where
   Accept : AcceptWords → Command
   Audit : AuditWords → Command
   Replay : ReplayWords → Command
+  Certify : CertifyWords → Command
+  JudgeLife : List ℕ → List ℕ → List ℕ → Command  -- the names of the operator's key's, the certificate's and the evidence's file
+  Forgery : ForgeryWords → Command
 
 infixl 10 ◌>>=◌
 abbrev pub ◌>>=◌ : {A B : Type 0} → Option A → (A → Option B) → Option B
@@ -156,6 +160,52 @@ replay_of words = do
   by ← by_given (value_in options (codes "--by"))
   Some (Replay (record { seed = seed; height = height; ots = ots; pages = pages; script = script; by = by }))
 
+-- the height of a top tree, 5 unless it is given
+abbrev pub top_named : List ℕ → Option Height
+top_named text = if is_word text (codes "5") then Some H5 else if is_word text (codes "10") then Some H10 else None
+
+abbrev pub top_given : Option (List ℕ) → Option Height
+top_given None = Some H5
+top_given (Some text) = top_named text
+
+-- the number of the last life under a top tree of this height
+abbrev pub last_life : Height → ℕ
+last_life H5 = 31
+last_life H10 = 1023
+last_life H15 = 32767
+
+unfoldable pub certify_of : List (List ℕ) → Option Command
+certify_of words = do
+  options ← options_of (codes "--seed --top --height --width --life --key --certificate --out") words
+  seed ← value_in options (codes "--seed")
+  top ← top_given (value_in options (codes "--top"))
+  height ← height_given (value_in options (codes "--height"))
+  ots ← width_given (value_in options (codes "--width"))
+  life ← number_given 0 (last_life top) (value_in options (codes "--life"))
+  key ← value_in options (codes "--key")
+  certificate ← value_in options (codes "--certificate")
+  out ← value_in options (codes "--out")
+  Some (Certify (record { seed = seed; top = top; height = height; ots = ots; life = life; key = key; certificate = certificate; out = out }))
+
+unfoldable pub judge_life_of : List (List ℕ) → Option Command
+judge_life_of words = do
+  options ← options_of (codes "--key --certificate --evidence") words
+  key ← value_in options (codes "--key")
+  certificate ← value_in options (codes "--certificate")
+  evidence ← value_in options (codes "--evidence")
+  Some (JudgeLife key certificate evidence)
+
+unfoldable pub forgery_of : List (List ℕ) → Option Command
+forgery_of words = do
+  options ← options_of (codes "--seed --height --width --signed --text --signature") words
+  seed ← value_in options (codes "--seed")
+  height ← height_wanted (value_in options (codes "--height"))
+  ots ← width_wanted (value_in options (codes "--width"))
+  signed ← value_in options (codes "--signed")
+  text ← value_in options (codes "--text")
+  signature ← value_in options (codes "--signature")
+  Some (Forgery (record { seed = seed; height = height; ots = ots; signed = signed; text = text; signature = signature }))
+
 -- the command that the words spell, if they are a command's
 unfoldable pub command_of : List (List ℕ) → Option Command
 command_of [] = None
@@ -168,4 +218,7 @@ command_of (name ∷ words) =
     else if is_word name (codes "accept") then accept_words_of words
     else if is_word name (codes "audit") then audit_of words
     else if is_word name (codes "replay") then replay_of words
+    else if is_word name (codes "certify") then certify_of words
+    else if is_word name (codes "judge-life") then judge_life_of words
+    else if is_word name (codes "forgery") then forgery_of words
     else None

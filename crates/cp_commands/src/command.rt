@@ -5,9 +5,11 @@ ghost use Rattle.cp_commands.specs.View.{command_view};
 ghost use Rattle.cp_commands.specs.Commands.{command_of, judge_of, verify_of, keygen_of, height_named, width_named, height_given, width_given, is_word};
 
 use crate::audit_words::{AuditWords, audit_words};
+use crate::certify_words::CertifyWords;
 use crate::client_words::{
     AcceptWords, GetWords, PutWords, accept_words, ask_get_words, ask_put_words,
 };
+use crate::more_words::{ForgeryWords, certify_words, forgery_words, judge_life_words};
 use crate::replay_words::{ReplayWords, replay_words};
 use cp_words::Pairs;
 use lms_ots::OtsType;
@@ -44,6 +46,16 @@ pub enum Command<'a> {
     Audit(AuditWords<'a>),
     /// `replay`: runs a script through a new store, and writes the files that it leaves.
     Replay(ReplayWords<'a>),
+    /// `certify`: writes an operator's key, the certificate of a life and the life's seed.
+    Certify(CertifyWords<'a>),
+    /// `judge-life`: whether the evidence convicts the life of the certificate, under the operator's key.
+    JudgeLife {
+        key: &'a str,
+        certificate: &'a str,
+        evidence: &'a str,
+    },
+    /// `forgery`: what must have failed where a signature verifies that the key didn't make.
+    Forgery(ForgeryWords<'a>),
 }
 
 pub(crate) fn is_word(word: &str, name: &str) -> bool
@@ -126,7 +138,7 @@ pub(crate) fn width_named(text: &str) -> Option<OtsType>
 }
 
 // The height that is given, or 10.
-fn height_given(text: Option<&str>) -> Option<Height>
+pub(crate) fn height_given(text: Option<&str>) -> Option<Height>
     ensures { result ≡ height_given (option_map (λ t. t.now) text.entry) }
 {
     match text {
@@ -136,7 +148,7 @@ fn height_given(text: Option<&str>) -> Option<Height>
 }
 
 // The width that is given, or 4.
-fn width_given(text: Option<&str>) -> Option<OtsType>
+pub(crate) fn width_given(text: Option<&str>) -> Option<OtsType>
     ensures { result ≡ width_given (option_map (λ t. t.now) text.entry) }
 {
     match text {
@@ -201,6 +213,12 @@ impl<'a> Command<'a> {
             audit_words(options)
         } else if is_word(name, "replay") {
             replay_words(options)
+        } else if is_word(name, "certify") {
+            certify_words(options)
+        } else if is_word(name, "judge-life") {
+            judge_life_words(options)
+        } else if is_word(name, "forgery") {
+            forgery_words(options)
         } else {
             None
         }

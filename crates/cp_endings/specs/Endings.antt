@@ -49,7 +49,7 @@ fault = record { status = 4; text = line (codes "fault") }
 abbrev pub no_memory : Outcome
 no_memory = record { status = 5; text = line (codes "no memory") }
 
--- a script that does not read, by the offset of its first bad line
+-- a script or a list that does not read, by the offset of its first bad line or envelope
 abbrev pub malformed : ℕ → Outcome
 malformed at = record { status = 3; text = line (codes "malformed " ++ decimal at) }
 

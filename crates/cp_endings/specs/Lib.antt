@@ -4,5 +4,12 @@ pub mod ClientEndings
 pub mod ClientView
 pub mod Endings
 pub mod EpochFiles
+pub mod Exactly
+pub mod Folders
+pub mod Inputs
+pub mod MoreEndings
+pub mod MoreView
 pub mod Reports
+pub mod ThreeInputs
 pub mod View
+pub mod Writes

@@ -2,8 +2,9 @@
 use Rattle.cp_endings.specs.AuditView.{audit_ending_view}
 use Rattle.cp_endings.specs.ClientView.{client_ending_view}
 use Rattle.cp_endings.specs.Endings as endings
+use Rattle.cp_endings.specs.MoreView.{more_ending_view}
 use Rattle.cp_endings.specs.declared.ending.Ending.{Ending}
-use Rattle.cp_endings.specs.declared.ending.Ending.TheVariants.{Usage, Missing, TooLong, ShortSeed, BadKey, Judged, Valid, Invalid, Key, Client, Audited, Malformed, Replayed, Fault, NoMemory}
+use Rattle.cp_endings.specs.declared.ending.Ending.TheVariants.{Usage, Missing, TooLong, ShortSeed, BadKey, Judged, Valid, Invalid, Key, Client, Audited, Malformed, Replayed, More, Fault, NoMemory}
 
 abbrev pub ending_view : Ending → endings.Outcome
 ending_view Usage = endings.usage
@@ -19,5 +20,6 @@ ending_view (Client ending) = client_ending_view ending
 ending_view (Audited ending) = audit_ending_view ending
 ending_view (Malformed at) = endings.malformed at
 ending_view (Replayed text) = endings.printed text
+ending_view (More ending) = more_ending_view ending
 ending_view Fault = endings.fault
 ending_view NoMemory = endings.no_memory

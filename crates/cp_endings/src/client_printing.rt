@@ -15,7 +15,12 @@ use cp_statements::{Attestation, Kind};
 use itoa::Buffer;
 
 // Two numbers with a text between them.
-fn numbers_beside<'b>(buffer: &'b mut [u8; ROOM], first: u64, text: &[u8], second: u64) -> &'b [u8]
+pub(crate) fn numbers_beside<'b>(
+    buffer: &'b mut [u8; ROOM],
+    first: u64,
+    text: &[u8],
+    second: u64,
+) -> &'b [u8]
     requires { length text.now ≤ 20 }
     ensures { result.now ≡ decimal first ++ text.now ++ decimal second }
 {

@@ -3,6 +3,7 @@ ghost use Rattle.std.specs.Prelude.{◌≡◌};
 
 use crate::audit_ending::AuditEnding;
 use crate::client_ending::ClientEnding;
+use crate::more_ending::MoreEnding;
 use cp_bytes::Bytes;
 use cp_judge::Judgement;
 
@@ -31,10 +32,13 @@ pub enum Ending<'a> {
     Client(ClientEnding),
     /// How `audit` ended: status 0, 1 or 3.
     Audited(AuditEnding),
-    /// `replay`: a line of the script doesn't read, the first with its first byte at `at`: status 3.
+    /// `replay`: a line of the script doesn't read, the first with its first byte at `at`; `forgery`: an
+    /// envelope doesn't, or isn't by a leaf of the key, the first at `at`: status 3.
     Malformed { at: u64 },
     /// `replay`: the files were written; the printed lines, each with its end: status 0.
     Replayed(Bytes),
+    /// How `certify`, `judge-life` or `forgery` ended, in a way of its own: status 0, 1 or 3.
+    More(MoreEnding),
     /// A call of the folder or the vault's disk failed: status 4.
     Fault,
     /// Memory was wanted: status 5.
@@ -62,6 +66,7 @@ impl<'a> Ending<'a> {
             | Ending::Judged(Judgement::BadKey) => 3,
             Ending::Client(ending) => ending.status(),
             Ending::Audited(ending) => ending.status(),
+            Ending::More(ending) => ending.status(),
             Ending::Fault => 4,
             Ending::NoMemory => 5,
         }

@@ -1,4 +1,5 @@
-//! How the commands of the program `cloudproof` end: each one's status and printed lines.
+//! How the commands of the program `cloudproof` end: each one's status and printed lines; and what reading
+//! their input files gives: the bytes, or how the command ends without them.
 #![tactic(auto)]
 
 mod audit_ending;
@@ -8,11 +9,18 @@ mod client_printing;
 mod ending;
 mod epoch_part;
 mod guilt;
+mod inputs;
+mod more_ending;
+mod more_printing;
 mod printing;
+mod three;
 
 pub use audit_ending::AuditEnding;
 pub use client_ending::ClientEnding;
 pub use ending::Ending;
 pub use epoch_part::EpochPart;
 pub use guilt::Guilt;
+pub use inputs::input;
+pub use more_ending::MoreEnding;
 pub use printing::report;
+pub use three::{Input, ThreeFiles, three_inputs};

@@ -8,6 +8,7 @@ ghost use Rattle.cp_endings.specs.View.{ending_view};
 use crate::audit_printing::put_audit_ending;
 use crate::client_printing::put_client_ending;
 use crate::ending::Ending;
+use crate::more_printing::put_more_ending;
 use cp_bytes::put;
 use cp_judge::Judgement;
 use cp_outside::{Failed, Sink, put_all};
@@ -123,6 +124,7 @@ fn put_ending<S: Sink>(out: &mut S, ending: &Ending) -> Result<(), Failed>
         Ending::Key(key) => return put_key(out, key),
         Ending::Client(ending) => return put_client_ending(out, ending),
         Ending::Audited(ending) => return put_audit_ending(out, ending),
+        Ending::More(ending) => return put_more_ending(out, ending),
         Ending::Malformed { at } => return put_number(out, b"malformed ", *at),
         Ending::Replayed(text) => return put_piece(out, text.as_slice()),
         Ending::Usage => b"usage",

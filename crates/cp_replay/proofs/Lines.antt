@@ -1,7 +1,7 @@
 -- Lines one after another.
 use Rattle.std.specs.Prelude.{◌==◌}
 use Rattle.std.specs.List.{AllByRecursion}
-use Rattle.std.proofs.Common.{false, append_assoc, append-nil, ◌≡◌, ℕ, zero, suc, ◌+◌, ◌-◌, List, [], ◌∷◌, ◌++◌, length, Some, None, Result, Ok, Err, refl, sym, ap}
+use Rattle.std.proofs.Common.{false, append_assoc, append-nil, ◌≡◌, ℕ, zero, suc, List, [], ◌∷◌, ◌++◌, length, Some, None, Result, Ok, Err, refl, sym, ap}
 use Rattle.cp_replay.specs.Script.{LineFits, lines_of, line_at, before}
 use Rattle.cp_replay.specs.declared.line.Line.{Line}
 

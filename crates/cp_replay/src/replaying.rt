@@ -17,6 +17,7 @@ use cp_store::{By, Store};
 use lms_ots::OtsType;
 use lms_tree::{Height, PrivateKey};
 use std::alloc::Global;
+use std::thread::Threads;
 
 /// The bytes from `at` on.
 fn part<const N: usize>(bytes: &[u8], at: usize) -> [u8; N]
@@ -29,16 +30,21 @@ fn part<const N: usize>(bytes: &[u8], at: usize) -> [u8; N]
 }
 
 /// The store's key.
-fn store_key(
+fn store_key<R: Threads + Sync>(
+    rt: &R,
     alloc: Global,
+    workers: usize,
     height: Height,
     ots: OtsType,
     seed: &[u8; 48],
 ) -> Result<PrivateKey, OutOfMemory>
+    requires { 0 < workers }
     ensures { IfOk result (λ key. key ≡ store_secret height ots seed.now) }
 {
-    PrivateKey::make(
+    PrivateKey::make_by(
+        rt,
         alloc,
+        workers,
         part::<32>(seed, 0),
         part::<16>(seed, 32),
         height,
@@ -47,12 +53,26 @@ fn store_key(
 }
 
 /// The writer's key.
-fn writer_key(alloc: Global, seed: &[u8; 48]) -> Result<PrivateKey, OutOfMemory>
+fn writer_key<R: Threads + Sync>(
+    rt: &R,
+    alloc: Global,
+    workers: usize,
+    seed: &[u8; 48],
+) -> Result<PrivateKey, OutOfMemory>
+    requires { 0 < workers }
     ensures { IfOk result (λ key. key ≡ writer_secret seed.now) }
 {
     let secret = digest2(b"CPrw", seed);
     let id = digest2(b"CPri", seed);
-    PrivateKey::make(alloc, secret, part::<16>(&id, 0), Height::H10, OtsType::W4)
+    PrivateKey::make_by(
+        rt,
+        alloc,
+        workers,
+        secret,
+        part::<16>(&id, 0),
+        Height::H10,
+        OtsType::W4,
+    )
 }
 
 /// How many of the leaves are for closings.
@@ -128,7 +148,8 @@ fn run_all(
     Ok(now)
 }
 
-/// Runs the script through a new store, in one thread: its lines one after another, by the store's step.
+/// Runs the script through a new store: its lines, in one thread, one after another, by the store's step.
+/// Before them the leaves of the two keys are computed, in at most `workers` threads.
 ///
 /// The store's key has this height and one-time type, SEED and I in `seed`, its shards have `pages` pages
 /// of 1,024 bytes each. Puts and gets name epoch 1 at first, the epoch of the last `at` line after it, and
@@ -136,8 +157,10 @@ fn run_all(
 /// are signed by one writer's key (height 10, width 4, SEED is SHA-256 of "CPrw" and the seed file, I the
 /// first 16 bytes of SHA-256 of "CPri" and it), the i-th line, from 0, with leaf i; the families list has it
 /// for each client of a put in the family of its block. It answers want of memory alone.
-pub fn replay(
+pub fn replay<R: Threads + Sync>(
+    rt: &R,
     alloc: Global,
+    workers: usize,
     height: Height,
     ots: OtsType,
     seed: &[u8; 48],
@@ -145,10 +168,11 @@ pub fn replay(
     by: By,
     script: &Script,
 ) -> Result<Replayed, OutOfMemory>
+    requires { 0 < workers }
     ensures { IfOk result (λ done. outcome_view done ≡ replayed (record { height = height; ots = ots; seed = seed.now; pages = pages }) script.now) }
 {
-    let key = store_key(alloc, height, ots, seed)?;
-    let writer = writer_key(alloc, seed)?;
+    let key = store_key(rt, alloc, workers, height, ots, seed)?;
+    let writer = writer_key(rt, alloc, workers, seed)?;
     let lines = script.lines();
     let run = opened(alloc, &key, &writer, pages, by, script)?;
     let run = run_all(alloc, run, &key, &writer, lines)?;

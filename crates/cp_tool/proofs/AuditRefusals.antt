@@ -11,7 +11,7 @@ use Rattle.cp_evidence.specs.Verdict.Verdict.{Clean, Guilty}
 use Rattle.cp_tool.specs.AuditRuns.{AnswerEnds, AuditEnds, AuditFiles, Input, Sources, answered, bytes_of, named, own, own_before, sources_of, verdict_of}
 use Rattle.cp_commands.specs.AuditWords.{AuditWords}
 use Rattle.cp_endings.specs.Endings.{Outcome}
-use Rattle.cp_tool.specs.Folders.{Files, FolderFailed, Stops, input_of}
+use Rattle.cp_endings.specs.Folders.{Files, FolderFailed, Stops, input_of}
 use Rattle.cp_endings.specs.declared.epoch_part.EpochPart.TheVariants.{Families, Closing, Table, Log}
 
 -- ---- refusals end with 3

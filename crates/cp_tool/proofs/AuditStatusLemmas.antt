@@ -28,11 +28,11 @@ use Rattle.cp_commands.specs.AuditWords.{AuditWords}
 use Rattle.cp_commands.specs.Commands.{Command}
 use Rattle.cp_commands.specs.Commands.Command.{Audit}
 use Rattle.cp_endings.specs.Endings.{Outcome, bad_key}
-use Rattle.cp_tool.specs.Folders.{Files}
+use Rattle.cp_endings.specs.Folders.{Files}
 use Rattle.cp_endings.specs.Reports.{Reports}
 use Rattle.cp_tool.specs.PutRuns.{CommandEnds}
 use Rattle.cp_outside.specs.declared.disk.Disk as disk
-use Rattle.cp_tool.proofs.StatusLemmas.{reported, stopped}
+use Rattle.cp_endings.proofs.Reported.{reported, stopped}
 
 -- ---- what is given and read
 

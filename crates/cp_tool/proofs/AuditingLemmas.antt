@@ -20,9 +20,9 @@ use Rattle.cp_tool.specs.AuditInputs.{ReadsSources, sources_view}
 use Rattle.cp_tool.specs.AuditRuns.{AnswerEnds, AuditEnds, Sources, sources_of, verdict_of}
 use Rattle.cp_commands.specs.AuditWords.{AuditWords}
 use Rattle.cp_endings.specs.Endings.{Outcome, no_memory}
-use Rattle.cp_tool.specs.Folders.{Files, KeepsAll, Stops}
+use Rattle.cp_endings.specs.Folders.{Files, KeepsAll, Stops}
 use Rattle.cp_endings.specs.View.{ending_view}
-use Rattle.cp_tool.proofs.InputLemmas.{stops_first}
+use Rattle.cp_endings.proofs.InputLemmas.{stops_first}
 use Rattle.cp_tool.proofs.SizeLemmas.{sources_within}
 use Rattle.cp_endings.specs.declared.audit_ending.AuditEnding.TheVariants as audit_ending
 use Rattle.cp_tool.specs.declared.audit_sources.Sources as code

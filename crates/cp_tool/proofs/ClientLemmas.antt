@@ -1,5 +1,5 @@
 -- How the commands of the client end, from what their steps gave.
-use Rattle.std.proofs.Common.{◌≡◌, ◌⊎◌, inl, inr, ℕ, ◌-◌, ◌+◌, ◌<◌, ◌≤◌, false, List, ◌++◌, Some, Result, Ok, Err, length, take, refl, ap, ◌∙◌, subst, arith, length-append}
+use Rattle.std.proofs.Common.{◌≡◌, ◌⊎◌, inl, inr, ℕ, ◌-◌, ◌<◌, ◌≤◌, false, List, ◌++◌, Some, Result, Ok, Err, length, take, refl, ap, ◌∙◌, subst, arith, length-append}
 use Rattle.std.specs.Prelude.{◌≢◌, IsTrue}
 use Rattle.std.specs.Global.{Vec}
 use Rattle.std.proofs.lemmas.Bool.{le-ltb}
@@ -26,90 +26,17 @@ use Rattle.cp_client.specs.declared.refusals.ClientRefusal.TheVariants.{BadSigna
 use Rattle.cp_commands.specs.ClientWords.{PutWords, GetWords, AcceptWords}
 use Rattle.cp_endings.specs.Endings.{Outcome, bad_key, fault, no_memory}
 use Rattle.cp_endings.specs.ClientEndings.{asked_get}
-use Rattle.cp_tool.specs.ClientInputs.{three_view, ReadsThree, JudgesPut, WritesEnds}
-use Rattle.cp_tool.specs.ClientRuns.{Three, Input, three_of, key_in, get_request, get_asked, GetEnds, AskGetEnds, asked_or_refused, accepted_or_refused, acceptance_of, accept_inputs, AcceptanceEnds, AcceptEnds}
-use Rattle.cp_tool.specs.Folders.{Files, input_of, Stops, KeepsAll, KeepsOthers}
-use Rattle.cp_tool.specs.Inputs.{ReadsInput}
+use Rattle.cp_tool.specs.ClientInputs.{JudgesPut, WritesEnds}
+use Rattle.cp_endings.specs.ThreeInputs.{three_view, ReadsThree, Three}
+use Rattle.cp_tool.specs.ClientRuns.{key_in, get_request, get_asked, GetEnds, AskGetEnds, asked_or_refused, accepted_or_refused, acceptance_of, accept_inputs, AcceptanceEnds, AcceptEnds}
+use Rattle.cp_endings.specs.Folders.{Files, input_of, Stops, KeepsAll, KeepsOthers}
+use Rattle.cp_endings.specs.Inputs.{ReadsInput}
 use Rattle.cp_tool.specs.PutRuns.{PutParts, put_parts, put_request, put_inputs, LeafEnds, PutEnds, AskPutEnds, DrawsLeaf, TakesFirst}
-use Rattle.cp_tool.proofs.InputLemmas.{stops_first}
-use Rattle.cp_tool.specs.Runs.{secret_in}
+use Rattle.cp_endings.proofs.InputLemmas.{stops_first}
+use Rattle.cp_more.specs.Seeds.{secret_in}
 use Rattle.cp_endings.specs.View.{ending_view}
 use Rattle.cp_endings.specs.declared.ending.Ending.{Ending}
-use Rattle.cp_tool.specs.declared.three_inputs.ThreeFiles.{ThreeFiles}
-
--- ---- three files
-
-pub three_first : (a b c : Input) (old new : Files) (ending : Ending) → ReadsInput old.tells (old.file a.name) a.name a.limit old.read_faults new.read_faults (Err ending) → ReadsThree a b c old new (Err ending)
-three_first a b c old new ending read = record {
-  first_file = read.content;
-  second_file = old.file b.name;
-  third_file = old.file c.name;
-  first_is = read.told;
-  second_is = λ t. refl;
-  third_is = λ t. refl;
-  gives = gives read.gives;
-  later = read.later;
-  failed = read.failed;
-}
-  where
-    gives : (input_of read.content a.name a.limit ≡ Err (ending_view ending)) ⊎ Stops old.read_faults new.read_faults (ending_view ending)
-        → (three_of read.content a (old.file b.name) b (old.file c.name) c ≡ Err (ending_view ending)) ⊎ Stops old.read_faults new.read_faults (ending_view ending)
-    gives (inl refused) = inl (rw refused refl)
-    gives (inr stops) = inr stops
-
-pub three_second : (a b c : Input) (old new : Files) (after : ℕ) (x : Vec ℕ) (ending : Ending) → ReadsInput old.tells (old.file a.name) a.name a.limit old.read_faults after (Ok x)
-    → ReadsInput old.tells (old.file b.name) b.name b.limit old.read_faults new.read_faults (Err ending) → ReadsThree a b c old new (Err ending)
-three_second a b c old new after x ending first second = record {
-  first_file = first.content;
-  second_file = second.content;
-  third_file = old.file c.name;
-  first_is = first.told;
-  second_is = second.told;
-  third_is = λ t. refl;
-  gives = gives second.gives;
-  later = second.later;
-  failed = second.failed;
-}
-  where
-    gives : (input_of second.content b.name b.limit ≡ Err (ending_view ending)) ⊎ Stops old.read_faults new.read_faults (ending_view ending)
-        → (three_of first.content a second.content b (old.file c.name) c ≡ Err (ending_view ending)) ⊎ Stops old.read_faults new.read_faults (ending_view ending)
-    gives (inl refused) = inl (rw (first.gives, refused) refl)
-    gives (inr stops) = inr stops
-
-pub three_third : (a b c : Input) (old new : Files) (after later : ℕ) (x y : Vec ℕ) (ending : Ending) → ReadsInput old.tells (old.file a.name) a.name a.limit old.read_faults after (Ok x)
-    → ReadsInput old.tells (old.file b.name) b.name b.limit old.read_faults later (Ok y)
-    → ReadsInput old.tells (old.file c.name) c.name c.limit old.read_faults new.read_faults (Err ending) → ReadsThree a b c old new (Err ending)
-three_third a b c old new after later x y ending first second third = record {
-  first_file = first.content;
-  second_file = second.content;
-  third_file = third.content;
-  first_is = first.told;
-  second_is = second.told;
-  third_is = third.told;
-  gives = gives third.gives;
-  later = third.later;
-  failed = third.failed;
-}
-  where
-    gives : (input_of third.content c.name c.limit ≡ Err (ending_view ending)) ⊎ Stops old.read_faults new.read_faults (ending_view ending)
-        → (three_of first.content a second.content b third.content c ≡ Err (ending_view ending)) ⊎ Stops old.read_faults new.read_faults (ending_view ending)
-    gives (inl refused) = inl (rw (first.gives, second.gives, refused) refl)
-    gives (inr stops) = inr stops
-
-pub three_all : (a b c : Input) (old new : Files) (after later : ℕ) (files : ThreeFiles) → ReadsInput old.tells (old.file a.name) a.name a.limit old.read_faults after (Ok files.first)
-    → ReadsInput old.tells (old.file b.name) b.name b.limit old.read_faults later (Ok files.second)
-    → ReadsInput old.tells (old.file c.name) c.name c.limit old.read_faults new.read_faults (Ok files.third) → ReadsThree a b c old new (Ok files)
-three_all a b c old new after later files first second third = record {
-  first_file = first.content;
-  second_file = second.content;
-  third_file = third.content;
-  first_is = first.told;
-  second_is = second.told;
-  third_is = third.told;
-  gives = rw (first.gives, second.gives, third.gives) refl;
-  later = third.later;
-  failed = third.failed;
-}
+use Rattle.cp_endings.specs.declared.three.ThreeFiles.{ThreeFiles}
 
 -- ---- ask-put
 

@@ -11,8 +11,9 @@ use Rattle.cp_client.specs.declared.refusals.ClientRefusal.TheVariants.{Malforme
 use Rattle.cp_commands.specs.ClientWords.{PutWords, GetWords, AcceptWords}
 use Rattle.cp_endings.specs.Endings.{Outcome, fault}
 use Rattle.cp_endings.specs.ClientEndings.{refused}
-use Rattle.cp_tool.specs.ClientRuns.{Three, Input, three_of, key_in, get_asked, GetEnds, AskGetEnds, asked_or_refused, accepted_or_refused, acceptance_of, accept_inputs, AcceptanceEnds, AcceptEnds}
-use Rattle.cp_tool.specs.Folders.{Files, input_of, Stops, KeepsAll}
+use Rattle.cp_tool.specs.ClientRuns.{key_in, get_asked, GetEnds, AskGetEnds, asked_or_refused, accepted_or_refused, acceptance_of, accept_inputs, AcceptanceEnds, AcceptEnds}
+use Rattle.cp_endings.specs.ThreeInputs.{Three, Input, three_of}
+use Rattle.cp_endings.specs.Folders.{Files, input_of, Stops, KeepsAll}
 use Rattle.cp_tool.specs.PutRuns.{PutParts, put_parts, put_inputs, LeafEnds, PutEnds, AskPutEnds, IsVaultRefusal}
 
 abbrev Not2 : Outcome → Type 0

@@ -17,16 +17,19 @@ use Rattle.cp_judge.specs.Judging.{judgement_of}
 use Rattle.cp_judge.specs.declared.judgement.Judgement.{Judgement}
 use Rattle.cp_judge.specs.declared.judgement.Judgement.TheVariants.{BadKey, Malformed, NotEvidence, Guilty}
 use Rattle.cp_endings.specs.ClientEndings.{refused}
-use Rattle.cp_tool.specs.ClientRuns.{Three, Input, three_of, key_in, get_asked, GetEnds, asked_or_refused, accepted_or_refused, acceptance_of, accept_inputs, AcceptanceEnds}
+use Rattle.cp_tool.specs.ClientRuns.{key_in, get_asked, GetEnds, asked_or_refused, accepted_or_refused, acceptance_of, accept_inputs, AcceptanceEnds}
+use Rattle.cp_endings.specs.ThreeInputs.{Three, Input, three_of}
 use Rattle.cp_commands.specs.ClientWords.{PutWords, GetWords, AcceptWords}
 use Rattle.cp_commands.specs.Commands.{Command}
-use Rattle.cp_commands.specs.Commands.Command.{Judge, Verify, Keygen, AskPut, AskGet, Accept, Audit, Replay}
+use Rattle.cp_commands.specs.Commands.Command.{Judge, Verify, Keygen, AskPut, AskGet, Accept, Audit, Replay, Certify, JudgeLife, Forgery}
 use Rattle.cp_tool.proofs.AuditRefusals.{audit_4}
 use Rattle.cp_tool.proofs.ReplayRefusals.{replay_4}
+use Rattle.cp_more.proofs.MoreRefusals.{certify_4, forgery_4, judge_life_4}
 use Rattle.cp_endings.specs.Endings.{Outcome, judged, short_seed, fault}
 use Rattle.cp_tool.specs.PutRuns.{PutParts, put_parts, put_inputs, LeafEnds, PutEnds, AskPutEnds, CommandEnds, IsVaultRefusal}
-use Rattle.cp_tool.specs.Folders.{FolderFailed}
-use Rattle.cp_tool.specs.Runs.{Files, input_of, ending_of, Stops, KeepsAll, judge_ending, verify_ending, verified, KeyEnds, key_made, secret_in, RunEnds}
+use Rattle.cp_endings.specs.Folders.{FolderFailed}
+use Rattle.cp_tool.specs.Runs.{Files, input_of, ending_of, Stops, KeepsAll, judge_ending, verify_ending, verified, KeyEnds, key_made, RunEnds}
+use Rattle.cp_more.specs.Seeds.{secret_in}
 
 -- an ending for which no count has to have risen
 abbrev Not4 : Outcome → Type 0
@@ -174,6 +177,9 @@ run_4 (Some (Accept words)) old new ending ends e =
     (step (accept_inputs words ends.store_file ends.request_file ends.reply_file) acceptance_of (three_well ends.store_file _ ends.request_file _ ends.reply_file _) acceptance_well)) ends.ends e
 run_4 (Some (Audit words)) old new ending ends e = audit_4 words old new ending ends e
 run_4 (Some (Replay words)) old new ending ends e = replay_4 words old new ending ends e
+run_4 (Some (Certify words)) old new ending ends e = certify_4 words old new ending ends e
+run_4 (Some (JudgeLife k c v)) old new ending ends e = judge_life_4 k c v old new ending ends e
+run_4 (Some (Forgery words)) old new ending ends e = forgery_4 words old new ending ends e
 
 -- ---- ask-put
 
@@ -228,3 +234,6 @@ module _ {K : Type 0} (g : disk.Ghosts K) where
   command_4 (Some (Accept words)) old new before after ending ends e = inl (run_4 (Some (Accept words)) old new ending ends.0 e)
   command_4 (Some (Audit words)) old new before after ending ends e = inl (run_4 (Some (Audit words)) old new ending ends.0 e)
   command_4 (Some (Replay words)) old new before after ending ends e = inl (run_4 (Some (Replay words)) old new ending ends.0 e)
+  command_4 (Some (Certify words)) old new before after ending ends e = inl (run_4 (Some (Certify words)) old new ending ends.0 e)
+  command_4 (Some (JudgeLife k c v)) old new before after ending ends e = inl (run_4 (Some (JudgeLife k c v)) old new ending ends.0 e)
+  command_4 (Some (Forgery words)) old new before after ending ends e = inl (run_4 (Some (Forgery words)) old new ending ends.0 e)

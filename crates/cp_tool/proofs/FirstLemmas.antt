@@ -1,11 +1,11 @@
 -- In each command the reads come first, and nothing but its outputs changes.
-use Rattle.std.proofs.Common.{◌≡◌, ◌⊎◌, inl, inr, ℕ, List, Option, Some, None, ap, ◌∙◌}
+use Rattle.std.proofs.Common.{◌≡◌, inl, inr, ℕ, List, Option, Some, None, ap, ◌∙◌}
 use Rattle.cp_outside.specs.declared.disk.Disk as disk
 use Rattle.cp_commands.specs.Commands.{Command}
-use Rattle.cp_commands.specs.Commands.Command.{Judge, Verify, Keygen, AskPut, AskGet, Accept, Audit, Replay}
+use Rattle.cp_commands.specs.Commands.Command.{Judge, Verify, Keygen, AskPut, AskGet, Accept, Audit, Replay, Certify, JudgeLife, Forgery}
 use Rattle.cp_endings.specs.Endings.{Outcome, fault, unprinted_status}
 use Rattle.cp_endings.specs.Reports.{Reports}
-use Rattle.cp_tool.specs.Folders.{Files, KeepsAll, ReadsFirst}
+use Rattle.cp_endings.specs.Folders.{Files, KeepsAll, ReadsFirst}
 use Rattle.cp_tool.specs.Outputs.{IsOutput}
 use Rattle.cp_tool.specs.PutRuns.{CommandEnds, TakesFirst}
 
@@ -25,6 +25,9 @@ module _ {K : Type 0} (g : disk.Ghosts K) (old new : Files) (before after : K) (
   takes_first (Some (Accept words)) ends = left_alone ends.0.reads_first ends.1
   takes_first (Some (Audit words)) ends = left_alone ends.0.reads_first ends.1
   takes_first (Some (Replay words)) ends = left_alone ends.0.reads_first ends.1
+  takes_first (Some (Certify words)) ends = left_alone ends.0.reads_first ends.1
+  takes_first (Some (JudgeLife k c e)) ends = left_alone ends.0.reads_first ends.1
+  takes_first (Some (Forgery words)) ends = left_alone ends.0.reads_first ends.1
 
   pub outputs_alone : (command : Option Command) → CommandEnds g command old new before after ending → (name : List ℕ) → ¬ IsOutput command name → new.file name ≡ old.file name
   outputs_alone None ends name other = ap (λ (f : Files). f.file name) ends.0.1
@@ -36,6 +39,9 @@ module _ {K : Type 0} (g : disk.Ghosts K) (old new : Files) (before after : K) (
   outputs_alone (Some (Accept words)) ends name other = ends.0.others name (λ out. other (inl out)) (λ content. other (inr content))
   outputs_alone (Some (Audit words)) ends name other = ends.0.others name other
   outputs_alone (Some (Replay words)) ends name other = ends.0.others name other
+  outputs_alone (Some (Certify words)) ends name other = ends.0.others name other
+  outputs_alone (Some (JudgeLife k c e)) ends name other = ends.0.kept name
+  outputs_alone (Some (Forgery words)) ends name other = ends.0.kept name
 
   pub read_failed : (command : Option Command) (held now : Option (List ℕ)) (first last status : ℕ) → CommandEnds g command old new before after ending
       → Reports held now first last ending status → (new.read_faults ≡ old.read_faults → ⊥) → (status ≡ 4) × (after ≡ before) × KeepsAll old new

@@ -3,7 +3,6 @@ pub mod ClientStatus
 pub mod AuditRefusals
 pub mod AuditStatusLemmas
 pub mod AuditingLemmas
-pub mod Contents
 pub mod DrawLemmas
 pub mod FaultLemmas
 pub mod FirstLemmas

@@ -10,16 +10,17 @@ use Rattle.cp_replay.specs.View.{outcome_view}
 use Rattle.cp_replay.specs.declared.line.Line.{Line}
 use Rattle.cp_replay.specs.declared.replayed.Replayed.{Replayed}
 use Rattle.cp_endings.specs.Endings.{printed}
-use Rattle.cp_tool.specs.Folders.{Files, KeepsAll, Stops, input_of}
-use Rattle.cp_tool.specs.Inputs.{ReadsInput, StopsAtFault}
-use Rattle.cp_tool.specs.ReplayFiles.{IsReplayFile, StopsAt, WritesAll, writes_of, content_after}
+use Rattle.cp_endings.specs.Folders.{Files, KeepsAll, Stops, input_of}
+use Rattle.cp_endings.specs.Inputs.{ReadsInput, StopsAtFault}
+use Rattle.cp_tool.specs.ReplayFiles.{IsReplayFile, writes_of}
+use Rattle.cp_endings.specs.Writes.{StopsAt, WritesAll, content_after}
 use Rattle.cp_tool.specs.ReplayInputs.{GivesReplay, GivesMade, MakesReplay, WritesReplay}
 use Rattle.cp_tool.specs.ReplayRuns.{ReplayEnds, WrittenEnds, making, replay_in, replay_made}
 use Rattle.cp_commands.specs.ReplayWords.{ReplayWords}
 use Rattle.cp_endings.specs.View.{ending_view}
 use Rattle.cp_endings.specs.declared.ending.Ending.{Ending}
 use Rattle.cp_endings.specs.declared.ending.Ending.TheVariants.{ShortSeed, Malformed}
-use Rattle.cp_tool.proofs.InputLemmas.{stops_first}
+use Rattle.cp_endings.proofs.InputLemmas.{stops_first}
 
 -- ---- the replay
 

@@ -7,7 +7,7 @@ use Rattle.cp_replay.specs.Replay as replay
 use Rattle.cp_replay.specs.Script.{script_of}
 use Rattle.cp_replay.specs.declared.line.Line.{Line}
 use Rattle.cp_endings.specs.Endings.{Outcome}
-use Rattle.cp_tool.specs.Folders.{Files, FolderFailed, Stops, input_of}
+use Rattle.cp_endings.specs.Folders.{Files, FolderFailed, Stops, input_of}
 use Rattle.cp_tool.specs.ReplayRuns.{ReplayEnds, WrittenEnds, replay_by, replay_in, replay_made}
 use Rattle.cp_commands.specs.ReplayWords.{ReplayWords}
 

@@ -7,14 +7,14 @@ use Rattle.cp_tool.specs.AuditRuns.{Input, AuditFiles, bytes_of, content_at, nam
 use Rattle.cp_commands.specs.AuditWords.{AuditWords}
 use Rattle.cp_endings.specs.EpochFiles.{epoch_file}
 use Rattle.cp_endings.specs.Endings.{Outcome}
-use Rattle.cp_tool.specs.Folders.{Files, KeepsAll}
-use Rattle.cp_tool.specs.Inputs.{GivesInput, ReadsInput}
+use Rattle.cp_endings.specs.Folders.{Files, KeepsAll}
+use Rattle.cp_endings.specs.Inputs.{GivesInput, ReadsInput}
 use Rattle.cp_endings.specs.declared.audit_ending.AuditEnding.TheVariants.{Missing}
 use Rattle.cp_endings.specs.declared.ending.Ending.{Ending}
 use Rattle.cp_endings.specs.declared.ending.Ending.TheVariants.{Audited}
 use Rattle.cp_endings.specs.declared.epoch_part.EpochPart.{EpochPart}
 use Rattle.cp_endings.specs.declared.epoch_part.EpochPart.TheVariants.{Families, Closing, Table, Log}
-use Rattle.cp_tool.proofs.InputLemmas.{fails_later, stops_before}
+use Rattle.cp_endings.proofs.InputLemmas.{fails_later, stops_before}
 
 -- ---- the folder from read to read
 

@@ -1,7 +1,7 @@
 -- What the statuses say.
 use Rattle.std.proofs.Common.{◌≡◌, ◌⊎◌, inl, inr, ℕ, ◌<◌, ◌≤◌, Bool, true, false, cond, List, Option, Some, None, Result, Ok, Err, length, refl, sym, ap, ◌∙◌, subst, arith}
-use Rattle.std.specs.Prelude.{IsTrue, nat_lt, nat_eq}
-use Rattle.std.proofs.lemmas.Bool.{le-ltb, false≢true}
+use Rattle.std.specs.Prelude.{IsTrue, nat_lt}
+use Rattle.std.proofs.lemmas.Bool.{false≢true}
 use Rattle.cp_bytes.specs.Fields.{◌>>=◌}
 use Rattle.cp_outside.specs.Causes.{Rose}
 use Rattle.lms_ots.specs.declared.ots_type.OtsType.{OtsType}
@@ -10,24 +10,28 @@ use Rattle.lms_tree.specs.PublicKey.{key_reads}
 use Rattle.lms_tree.specs.Verifying.{verifies}
 use Rattle.lms_tree.specs.Secret.{public_of}
 use Rattle.lms_tree.proofs.Testing.{verifies_tells}
-use Rattle.cp_evidence.specs.Evidence.{Evidence, evidence_of, kind_of}
-use Rattle.cp_evidence.specs.Conditions.{tried}
-use Rattle.cp_judge.specs.Judging.{judgement_of, judgement_on, judgement_by, IsGuilty}
+use Rattle.cp_judge.specs.Judging.{judgement_of}
 use Rattle.cp_outside.specs.declared.disk.Disk as disk
 use Rattle.cp_judge.specs.declared.judgement.Judgement.{Judgement}
 use Rattle.cp_judge.specs.declared.judgement.Judgement.TheVariants.{BadKey, Malformed, NotEvidence, Guilty}
 use Rattle.cp_judge.proofs.Guilt.{guilty}
 use Rattle.cp_commands.specs.Commands.{Command}
-use Rattle.cp_commands.specs.Commands.Command.{Judge, Verify, Keygen, AskPut, AskGet, Accept, Audit, Replay}
+use Rattle.cp_commands.specs.Commands.Command.{Judge, Verify, Keygen, AskPut, AskGet, Accept, Audit, Replay, Certify, JudgeLife, Forgery}
+use Rattle.cp_endings.proofs.Reported.{bad_3, guilty_0, innocent_1, input_within, judged_0, judged_1, key_read_1, key_unread_3, not_low, reported, stopped, unprinted_high}
+use Rattle.cp_commands.specs.MoreWords.{CertifyWords, ForgeryWords}
+use Rattle.cp_more.specs.MoreStatus.{CertifyStatus, ForgeryStatus, JudgeLifeStatus}
+use Rattle.cp_more.proofs.MoreStatuses.{certify_status, forgery_status, judge_life_status}
 use Rattle.cp_tool.specs.PutRuns.{CommandEnds, IsAskPut}
 use Rattle.cp_tool.proofs.ClientStatus.{ask_put_not2, ask_get_not2, accept_not2}
 use Rattle.cp_tool.proofs.FaultLemmas.{command_4}
 use Rattle.cp_tool.proofs.AuditRefusals.{audit_not2}
 use Rattle.cp_tool.proofs.ReplayRefusals.{replay_not2}
+use Rattle.cp_more.proofs.MoreRefusals.{certify_not2, forgery_not2, judge_life_not2}
 use Rattle.cp_endings.specs.Endings.{Outcome, judged, usage, short_seed, unprinted_status}
 use Rattle.cp_endings.specs.Reports.{Reports}
-use Rattle.cp_tool.specs.Folders.{FolderFailed}
-use Rattle.cp_tool.specs.Runs.{Files, RunEnds, JudgeEnds, VerifyEnds, KeyEnds, Stops, KeepsAll, input_of, ending_of, judge_ending, verify_ending, verified, key_made, secret_in}
+use Rattle.cp_endings.specs.Folders.{FolderFailed}
+use Rattle.cp_tool.specs.Runs.{Files, RunEnds, JudgeEnds, VerifyEnds, KeyEnds, Stops, KeepsAll, input_of, ending_of, judge_ending, verify_ending, verified, key_made}
+use Rattle.cp_more.specs.Seeds.{secret_in}
 use Rattle.cp_tool.specs.Statuses.{JudgeStatus, VerifyStatus}
 
 -- ---- no ending of a command but `usage` has the status 2
@@ -123,6 +127,9 @@ run_2 (Some (AskGet words)) old new ending ends e = absurd (ask_get_not2 words o
 run_2 (Some (Accept words)) old new ending ends e = absurd (accept_not2 words old new ending ends e)
 run_2 (Some (Audit words)) old new ending ends e = absurd (audit_not2 words old new ending ends e)
 run_2 (Some (Replay words)) old new ending ends e = absurd (replay_not2 words old new ending ends e)
+run_2 (Some (Certify words)) old new ending ends e = absurd (certify_not2 words old new ending ends e)
+run_2 (Some (JudgeLife k c v)) old new ending ends e = absurd (judge_life_not2 k c v old new ending ends e)
+run_2 (Some (Forgery words)) old new ending ends e = absurd (forgery_not2 words old new ending ends e)
 
 -- ---- the vault's disk
 
@@ -139,6 +146,9 @@ module _ {K : Type 0} (g : disk.Ghosts K) where
   apart (Some (Accept words)) old new before after ending ends = inr ends
   apart (Some (Audit words)) old new before after ending ends = inr ends
   apart (Some (Replay words)) old new before after ending ends = inr ends
+  apart (Some (Certify words)) old new before after ending ends = inr ends
+  apart (Some (JudgeLife k c e)) old new before after ending ends = inr ends
+  apart (Some (Forgery words)) old new before after ending ends = inr ends
 
   pub disk_untouched : (command : Option Command) (old new : Files) (before after : K) (ending : Outcome) → CommandEnds g command old new before after ending
       → IsAskPut command ⊎ (after ≡ before)
@@ -160,17 +170,6 @@ module _ {K : Type 0} (g : disk.Ghosts K) where
 
 abbrev Reported : Option (List ℕ) → Option (List ℕ) → ℕ → ℕ → Outcome → ℕ → Type 0
 Reported held now before after ending status = Reports held now before after ending status
-
-unprinted_high : (ending : Outcome) → (unprinted_status ending ≡ 4) ⊎ (unprinted_status ending ≡ 5)
-unprinted_high ending = go (nat_eq ending.status 5) refl
-  where
-    go : (five : Bool) → nat_eq ending.status 5 ≡ five → (unprinted_status ending ≡ 4) ⊎ (unprinted_status ending ≡ 5)
-    go true e = inr (rw e refl)
-    go false e = inl (rw e refl)
-
-not_low : (a n : ℕ) → (a ≡ 4) ⊎ (a ≡ 5) → n < 4 → a ≡ n → ⊥
-not_low a n (inl four) low e = omega (arith, four, low, e)
-not_low a n (inr five) low e = omega (arith, five, low, e)
 
 -- a status below 4 is the ending's
 printed_status : (held now : Option (List ℕ)) (before after : ℕ) (ending : Outcome) (status : ℕ) → Reports held now before after ending status → status < 4 → ending.status ≡ status
@@ -196,64 +195,6 @@ module _ {K : Type 0} (g : disk.Ghosts K) where
 
 -- ---- judge
 
-input_within : (bytes name : List ℕ) (limit : ℕ) → length bytes ≤ limit → input_of (Some bytes) name limit ≡ Ok bytes
-input_within bytes name limit within = rw (le-ltb limit (length bytes) within) refl
-
-judged_0 : (j : Judgement) → (judged j).status ≡ 0 → IsGuilty j
-judged_0 BadKey e = omega (arith, e)
-judged_0 (Malformed at) e = omega (arith, e)
-judged_0 (NotEvidence kind condition) e = omega (arith, e)
-judged_0 (Guilty kind) e = tt
-
-guilty_0 : (j : Judgement) → IsGuilty j → (judged j).status ≡ 0
-guilty_0 BadKey g = absurd g
-guilty_0 (Malformed at) g = absurd g
-guilty_0 (NotEvidence kind condition) g = absurd g
-guilty_0 (Guilty kind) g = refl
-
-judged_1 : (j : Judgement) → (judged j).status ≡ 1 → IsGuilty j → ⊥
-judged_1 j e g = omega (arith, e, guilty_0 j g)
-
-on_3 : (key : List ℕ) (r : Result Evidence ℕ) → (judged (judgement_on key r)).status ≡ 3 → ⊥
-on_3 key (Err at) e = omega (arith, e)
-on_3 key (Ok evidence) e = by_3 (tried key evidence) e
-  where
-    by_3 : (r : Result (Unit {0}) ℕ) → (judged (judgement_by (kind_of evidence) r)).status ≡ 3 → ⊥
-    by_3 (Ok x) e = omega (arith, e)
-    by_3 (Err n) e = omega (arith, e)
-
-bad_1 : (judged BadKey).status ≡ 1 → ⊥
-bad_1 e = omega (arith, e)
-
-key_read_1 : (key bytes : List ℕ) → (judged (judgement_of key bytes)).status ≡ 1 → IsTrue (key_reads key)
-key_read_1 key bytes = go (key_reads key) refl
-  where
-    go : (reads : Bool) → key_reads key ≡ reads → (judged (judgement_of key bytes)).status ≡ 1 → IsTrue (key_reads key)
-    go true e = λ one. e
-    go false e = rw e (λ one. absurd (bad_1 one))
-
-key_unread_3 : (key bytes : List ℕ) → (judged (judgement_of key bytes)).status ≡ 3 → key_reads key ≡ false
-key_unread_3 key bytes = go (key_reads key) refl
-  where
-    go : (reads : Bool) → key_reads key ≡ reads → (judged (judgement_of key bytes)).status ≡ 3 → key_reads key ≡ false
-    go true e = rw e (λ three. absurd (on_3 key (evidence_of bytes) three))
-    go false e = λ three. e
-
--- and the other way round
-on_1 : (key : List ℕ) (r : Result Evidence ℕ) → (IsGuilty (judgement_on key r) → ⊥) → (judged (judgement_on key r)).status ≡ 1
-on_1 key (Err at) innocent = refl
-on_1 key (Ok evidence) innocent = by_1 (tried key evidence) innocent
-  where
-    by_1 : (r : Result (Unit {0}) ℕ) → (IsGuilty (judgement_by (kind_of evidence) r) → ⊥) → (judged (judgement_by (kind_of evidence) r)).status ≡ 1
-    by_1 (Ok x) innocent = absurd (innocent tt)
-    by_1 (Err n) innocent = refl
-
-innocent_1 : (key bytes : List ℕ) → IsTrue (key_reads key) → (IsGuilty (judgement_of key bytes) → ⊥) → (judged (judgement_of key bytes)).status ≡ 1
-innocent_1 key bytes reads = rw reads (on_1 key (evidence_of bytes))
-
-bad_3 : (key bytes : List ℕ) → key_reads key ≡ false → (judged (judgement_of key bytes)).status ≡ 3
-bad_3 key bytes bad = rw bad refl
-
 -- the status is a fault's or want of memory's, or the ending's
 abbrev Answered : ℕ → Outcome → Type 0
 Answered status ending = ((status ≡ 4) ⊎ (status ≡ 5)) ⊎ (status ≡ ending.status)
@@ -275,19 +216,6 @@ of_judged key bytes status (inr same) =
       );
       refused = (λ e. key_unread_3 key bytes (sym same ∙ e), λ bad. inl (same ∙ bad_3 key bytes bad));
     }
-
-pub reported : (held now : Option (List ℕ)) (before after : ℕ) (ending : Outcome) (status : ℕ) → Reports held now before after ending status → ((status ≡ 4) ⊎ (status ≡ 5)) ⊎ (status ≡ ending.status)
-reported held now before after ending status (inl prints) = inr prints.answers
-reported held now before after ending status (inr fails) = inl (high (unprinted_high ending))
-  where
-    high : (unprinted_status ending ≡ 4) ⊎ (unprinted_status ending ≡ 5) → (status ≡ 4) ⊎ (status ≡ 5)
-    high (inl four) = inl (fails.answers ∙ four)
-    high (inr five) = inr (fails.answers ∙ five)
-
-pub stopped : (before now : ℕ) (ending : Outcome) (status : ℕ) → Stops before now ending → ((status ≡ 4) ⊎ (status ≡ 5)) ⊎ (status ≡ ending.status) → (status ≡ 4) ⊎ (status ≡ 5)
-stopped before now ending status stops (inl high) = high
-stopped before now ending status (inl fault) (inr same) = inl (same ∙ ap (λ o. o.status) fault.0)
-stopped before now ending status (inr memory) (inr same) = inr (same ∙ ap (λ o. o.status) memory)
 
 judge_ends : (command : Option Command) (old new : Files) (ending : Outcome) (held now : Option (List ℕ)) (before after status : ℕ) → RunEnds command old new ending
     → Reports held now before after ending status → (k e key bytes : List ℕ) → command ≡ Some (Judge k e) → IsTrue old.tells
@@ -374,6 +302,21 @@ verify_status g command old new first last ending held now before after status e
     go : (ending ≡ verify_ending verify.key_file k verify.text_file t verify.signature_file s) ⊎ Stops old.read_faults new.read_faults ending → VerifyStatus key text signature status
     go (inl same) = of_verified key text signature status (answered (verified key text signature) (same ∙ whole) answer)
     go (inr stops) = of_verified key text signature status (inl (stopped _ _ ending status stops answer))
+
+-- ---- certify, judge-life and forgery
+
+module _ {K : Type 0} (g : disk.Ghosts K) (command : Option Command) (old new : Files) (first last : K) (ending : Outcome) (held now : Option (List ℕ)) (before after status : ℕ) (ends : CommandEnds g command old new first last ending)
+    (reports : Reports held now before after ending status) where
+  pub of_certify : (words : CertifyWords) (seed : List ℕ) → command ≡ Some (Certify words) → IsTrue old.tells → old.file words.seed ≡ Some seed → CertifyStatus words seed old new status
+  of_certify words seed is = certify_status words old new ending held now before after status (subst (λ c. CommandEnds g c old new first last ending) is ends).0 reports seed
+
+  pub of_judge_life : (k c e key certificate evidence : List ℕ) → command ≡ Some (JudgeLife k c e) → IsTrue old.tells → old.file k ≡ Some key → length key ≤ 60 → old.file c ≡ Some certificate → length certificate ≤ 16384
+      → old.file e ≡ Some evidence → length evidence ≤ 536870912 → JudgeLifeStatus key certificate evidence status
+  of_judge_life k c e key certificate evidence is = judge_life_status k c e old new ending held now before after status (subst (λ c. CommandEnds g c old new first last ending) is ends).0 reports key certificate evidence
+
+  pub of_forgery : (words : ForgeryWords) (seed signed text sig : List ℕ) → command ≡ Some (Forgery words) → IsTrue old.tells → old.file words.seed ≡ Some seed → length seed ≡ 48 → old.file words.signed ≡ Some signed
+      → length signed ≤ 67108864 → old.file words.text ≡ Some text → length text ≤ 1048576 → old.file words.signature ≡ Some sig → length sig ≤ 16384 → ForgeryStatus (secret_in words.height words.ots seed) signed text sig status
+  of_forgery words seed signed text sig is = forgery_status words old new ending held now before after status (subst (λ c. CommandEnds g c old new first last ending) is ends).0 reports seed signed text sig
 
 -- a fault was counted by the folder, the vault's disk or the sink
 pub status_4 : {K : Type 0} (g : disk.Ghosts K) (command : Option Command) (old new : Files) (first last : K) (ending : Outcome) (held now : Option (List ℕ)) (before after status : ℕ) → CommandEnds g command old new first last ending

@@ -1,5 +1,5 @@
 -- A replay's files: which they are, and a folder while they are written one after another.
-use Rattle.std.proofs.Common.{◌≡◌, inl, inr, ℕ, Bool, true, false, cond, suc, ◌+◌, ◌<◌, ◌≤◌, List, [], ◌∷◌, ◌++◌, Option, Some, length, take, drop, get_or, map, string_bytes, refl, sym, ap, subst, ◌∙◌, arith, drop-cons}
+use Rattle.std.proofs.Common.{◌≡◌, inl, inr, ℕ, Bool, true, false, cond, suc, ◌+◌, ◌<◌, ◌≤◌, List, [], ◌∷◌, ◌++◌, Some, length, take, drop, get_or, map, string_bytes, refl, sym, ap, subst, ◌∙◌, arith, drop-cons}
 use Rattle.std.specs.Prelude.{◌≢◌, bytes_eq, IsTrue}
 use Rattle.std.specs.List.{AllByRecursion}
 use Rattle.std.proofs.Math.Seq.{split_at}
@@ -13,11 +13,13 @@ use Rattle.cp_endings.specs.declared.epoch_part.EpochPart.TheVariants.{Families,
 use Rattle.cp_evidence.proofs.Searches.{all_append}
 use Rattle.cp_replay.specs.Replay as replay
 use Rattle.cp_replay.specs.declared.epoch_files.EpochFiles.{EpochFiles}
-use Rattle.cp_tool.specs.Folders.{Files}
-use Rattle.cp_tool.specs.ReplayFiles.{FileWrite, IsReplayFile, StopsAt, WritesAll, content_after, epoch_writes, epochs_writes, write_of, writes_of}
+use Rattle.cp_endings.specs.Folders.{Files}
+use Rattle.cp_tool.specs.ReplayFiles.{IsReplayFile, epoch_writes, epochs_writes, writes_of}
+use Rattle.cp_endings.specs.Writes.{FileWrite, StopsAt, WritesAll, content_after, write_of}
+use Rattle.cp_endings.proofs.Written.{content_more}
 use Rattle.cp_tool.specs.ReplayView.{write_view}
 use Rattle.cp_tool.specs.declared.file_write.FileWrite as code
-use Rattle.cp_tool.proofs.InputLemmas.{rose_before}
+use Rattle.cp_endings.proofs.InputLemmas.{rose_before}
 
 -- ---- which files
 
@@ -54,11 +56,6 @@ listed_last before epochs now epoch index l past = sym (append-nil now) ∙ ap (
 
 abbrev names : List code.FileWrite → List FileWrite
 names items = map write_view items
-
-content_more : (name : List ℕ) (content : Option (List ℕ)) (ws : List FileWrite) (w : FileWrite) → content_after name content (ws ++ w ∷ []) ≡ cond (bytes_eq name w.name) (Some w.bytes) (content_after name content ws)
-unfolding content_after
-content_more name content [] w = refl
-content_more name content (x ∷ xs) w = content_more name (cond (bytes_eq name x.name) (Some x.bytes) content) xs w
 
 -- a name that is none of those that are written is not this one's
 pub not_named : (name : List ℕ) (items : List code.FileWrite) (index : ℕ) (w : code.FileWrite) → index < length items → w ≡ get_or items index w

@@ -10,7 +10,7 @@ use Rattle.cp_audit.specs.declared.verdict.Verdict.TheVariants.{Clean, Guilty}
 use Rattle.cp_endings.specs.AuditEndings.{guilt_of, guilty}
 use Rattle.cp_tool.specs.AuditRuns.{Sources, verdict_of}
 use Rattle.cp_endings.specs.Endings.{Outcome, fault, no_memory}
-use Rattle.cp_tool.specs.Folders.{Files, KeepsOthers}
+use Rattle.cp_endings.specs.Folders.{Files, KeepsOthers}
 use Rattle.cp_endings.specs.View.{ending_view}
 use Rattle.cp_endings.specs.declared.ending.Ending.{Ending}
 

@@ -4,8 +4,8 @@ use Rattle.std.specs.Global.{Vec}
 use Rattle.cp_tool.specs.AuditRuns as spec
 use Rattle.cp_tool.specs.AuditRuns.{Input, AuditFiles, content_at, bytes_of, files_in, sources_of}
 use Rattle.cp_commands.specs.AuditWords.{AuditWords}
-use Rattle.cp_tool.specs.Folders.{Files, Stops, KeepsAll}
-use Rattle.cp_tool.specs.Inputs.{StopsAtFault}
+use Rattle.cp_endings.specs.Folders.{Files, Stops, KeepsAll}
+use Rattle.cp_endings.specs.Inputs.{StopsAtFault}
 use Rattle.cp_endings.specs.View.{ending_view}
 use Rattle.cp_endings.specs.declared.ending.Ending.{Ending}
 use Rattle.cp_tool.specs.declared.audit_sources.Sources.{Sources}

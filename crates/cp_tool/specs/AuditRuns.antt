@@ -14,7 +14,7 @@ use Rattle.cp_endings.specs.AuditEndings.{clean, guilt_of, guilty, not_given, ma
 use Rattle.cp_commands.specs.AuditWords.{AuditWords}
 use Rattle.cp_endings.specs.EpochFiles.{epoch_file}
 use Rattle.cp_endings.specs.Endings.{Outcome, bad_key, fault}
-use Rattle.cp_tool.specs.Folders.{Files, input_of, Stops, KeepsAll, KeepsOthers, ReadsFirst}
+use Rattle.cp_endings.specs.Folders.{Files, input_of, Stops, KeepsAll, KeepsOthers, ReadsFirst}
 use Rattle.cp_endings.specs.declared.epoch_part.EpochPart.{EpochPart}
 use Rattle.cp_endings.specs.declared.epoch_part.EpochPart.TheVariants.{Families, Closing, Table, Log}
 

@@ -1,5 +1,5 @@
 -- What the steps of the client's commands give.
-use Rattle.std.specs.Prelude.{ℕ, ◌≡◌, ◌≢◌, ◌⊎◌, ◌≤◌, ◌<◌, List, length, Option, Some, Result, Ok, Err, IfOk, IfErr, IsErr, IsTrue}
+use Rattle.std.specs.Prelude.{ℕ, ◌≡◌, ◌≢◌, ◌⊎◌, ◌≤◌, ◌<◌, List, length, Some, Result, Ok, Err, IfOk, IfErr, IsErr, IsTrue}
 use Rattle.sha2.specs.Sha256.{sha256}
 use Rattle.cp_outside.specs.Causes.{Rose}
 use Rattle.cp_outside.specs.Disks.{LeavesOnly}
@@ -11,48 +11,20 @@ use Rattle.cp_client.specs.View.{accepted_view}
 use Rattle.cp_client.specs.declared.accepted.Accepted.{Accepted}
 use Rattle.cp_commands.specs.ClientWords.{PutWords, AcceptWords}
 use Rattle.cp_endings.specs.ClientEndings.{accepted, over, other_key, damaged}
-use Rattle.cp_tool.specs.ClientRuns as runs
-use Rattle.cp_tool.specs.ClientRuns.{three_of}
 use Rattle.cp_endings.specs.Endings.{Outcome, fault}
-use Rattle.cp_tool.specs.Folders.{Files, Stops, IsFile}
-use Rattle.cp_tool.specs.Inputs.{StopsAtFault}
+use Rattle.cp_endings.specs.Folders.{Files}
+use Rattle.cp_endings.specs.ThreeInputs.{Three}
 use Rattle.cp_tool.specs.PutRuns.{number_before, put_parts, made_from, IsMaking, IsVaultRefusal}
 use Rattle.cp_endings.specs.View.{ending_view}
 use Rattle.cp_tool.specs.declared.drawing.DrawnLeaf.{DrawnLeaf}
 use Rattle.cp_tool.specs.declared.drawing.NoLeaf.{NoLeaf}
 use Rattle.cp_tool.specs.declared.drawing.NoLeaf.TheVariants.{OtherKey, Damaged, Over, DiskFault}
 use Rattle.cp_endings.specs.declared.ending.Ending.{Ending}
-use Rattle.cp_tool.specs.declared.three_inputs.Input.{Input}
-use Rattle.cp_tool.specs.declared.three_inputs.ThreeFiles.{ThreeFiles}
-
--- ---- three files
-
-abbrev pub input_view : Input → runs.Input
-input_view input = record { name = input.name.now; limit = input.limit }
-
-abbrev pub three_view : ThreeFiles → runs.Three
-three_view files = record { first = files.first.items; second = files.second.items; third = files.third.items }
-
-abbrev pub GivesThree : Result runs.Three Outcome → ℕ → ℕ → Result ThreeFiles Ending → Type 0
-GivesThree three before now (Ok files) = three ≡ Ok (three_view files)
-GivesThree three before now (Err ending) = (three ≡ Err (ending_view ending)) ⊎ Stops before now (ending_view ending)
-
--- some contents were read, which are the files' where the folder tells its files
-pub record ReadsThree (a b c : runs.Input) (old new : Files) (result : Result ThreeFiles Ending) : Type 0 where
-  pub first_file : Option (List ℕ)
-  pub second_file : Option (List ℕ)
-  pub third_file : Option (List ℕ)
-  pub first_is : IsFile old a.name first_file
-  pub second_is : IsFile old b.name second_file
-  pub third_is : IsFile old c.name third_file
-  pub gives : GivesThree (three_of first_file a second_file b third_file c) old.read_faults new.read_faults result
-  pub later : old.read_faults ≤ new.read_faults
-  pub failed : StopsAtFault old.read_faults new.read_faults result
 
 -- ---- ask-put
 
 -- the store's id, where the seed has its length and the store's key reads, or the refusal
-abbrev pub JudgesPut : runs.Three → Result (List ℕ) Ending → Type 0
+abbrev pub JudgesPut : Three → Result (List ℕ) Ending → Type 0
 JudgesPut files (Ok store) = (48 ≤ length files.first) × IsTrue (key_reads files.second) × (store ≡ sha256 files.second)
 JudgesPut files (Err ending) = (words : PutWords) → put_parts words files ≡ Err (ending_view ending)
 

@@ -10,34 +10,15 @@ use Rattle.cp_client.specs.Asking.{Asked, asked_of}
 use Rattle.cp_client.specs.Accepting.{Accepted, accept_of}
 use Rattle.cp_client.specs.declared.refusals.ClientRefusal.{ClientRefusal}
 use Rattle.cp_client.specs.declared.refusals.ClientRefusal.TheVariants.{Malformed}
-use Rattle.cp_tool.specs.Folders.{Files, input_of, Stops, KeepsAll, KeepsOthers, IsFile, ReadsFirst}
+use Rattle.cp_endings.specs.Folders.{Files, input_of, Stops, KeepsAll, KeepsOthers, IsFile, ReadsFirst}
 use Rattle.cp_commands.specs.ClientWords.{CallWords, GetWords, AcceptWords}
 use Rattle.cp_endings.specs.Endings.{Outcome, bad_key, fault}
 use Rattle.cp_endings.specs.ClientEndings.{asked_get, accepted, refused}
+use Rattle.cp_endings.specs.ThreeInputs.{Three, three_of}
 
 -- the bytes, where they are an LMS public key
 abbrev pub key_in : List ℕ → Result (List ℕ) Outcome
 key_in bytes = if key_reads bytes then Ok bytes else Err bad_key
-
--- ---- three input files, read one after another
-
--- a file's name and the most bytes that it may have
-pub record Input : Type 0 where
-  pub name : List ℕ
-  pub limit : ℕ
-
-pub record Three : Type 0 where
-  pub first : List ℕ
-  pub second : List ℕ
-  pub third : List ℕ
-
--- their bytes, or how the command ends at the first that is refused
-abbrev pub three_of : Option (List ℕ) → Input → Option (List ℕ) → Input → Option (List ℕ) → Input → Result Three Outcome
-three_of a_file a b_file b c_file c = do
-  first ← input_of a_file a.name a.limit
-  second ← input_of b_file b.name b.limit
-  third ← input_of c_file c.name c.limit
-  Ok (record { first = first; second = second; third = third })
 
 -- ---- ask-get: the store's key of 56 bytes
 

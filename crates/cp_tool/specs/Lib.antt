@@ -4,7 +4,6 @@ pub mod AuditAnswers
 pub mod AuditInputs
 pub mod AuditRuns
 pub mod AuditStatus
-pub mod Folders
 pub mod Inputs
 pub mod Outputs
 pub mod PutRuns

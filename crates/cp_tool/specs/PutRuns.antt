@@ -17,8 +17,10 @@ use Rattle.cp_commands.specs.Commands.{Command}
 use Rattle.cp_commands.specs.Commands.Command.{AskPut}
 use Rattle.cp_endings.specs.Endings.{Outcome, short_seed, fault, no_memory}
 use Rattle.cp_endings.specs.ClientEndings.{asked_put, over, other_key, damaged}
-use Rattle.cp_tool.specs.ClientRuns.{Three, three_of, key_in}
-use Rattle.cp_tool.specs.Runs.{Files, Stops, KeepsAll, KeepsOthers, IsFile, RunEnds, secret_in}
+use Rattle.cp_tool.specs.ClientRuns.{key_in}
+use Rattle.cp_endings.specs.ThreeInputs.{Three, three_of}
+use Rattle.cp_tool.specs.Runs.{Files, Stops, KeepsAll, KeepsOthers, IsFile, RunEnds}
+use Rattle.cp_more.specs.Seeds.{secret_in}
 
 -- ---- the vault
 

@@ -1,15 +1,15 @@
 -- What the steps of `replay` give.
 use Rattle.std.specs.Prelude.{ℕ, ◌≡◌, ◌⊎◌, List, Option, Result, Ok, Err}
-use Rattle.cp_bytes.specs.Fields.{◌>>=◌}
 use Rattle.cp_outside.specs.Causes.{Rose}
 use Rattle.cp_outside.specs.declared.failures.Failed.{Failed}
 use Rattle.cp_replay.specs.Replay as replay
 use Rattle.cp_replay.specs.View.{outcome_view}
 use Rattle.cp_replay.specs.declared.replayed.Replayed.{Replayed}
 use Rattle.cp_endings.specs.Endings.{Outcome, fault, no_memory}
-use Rattle.cp_tool.specs.Folders.{Files, KeepsAll, Stops, IsFile}
-use Rattle.cp_tool.specs.Inputs.{StopsAtFault}
-use Rattle.cp_tool.specs.ReplayFiles.{FileWrite, WritesAll, StopsAt, writes_of}
+use Rattle.cp_endings.specs.Folders.{Files, KeepsAll, Stops, IsFile}
+use Rattle.cp_endings.specs.Inputs.{StopsAtFault}
+use Rattle.cp_tool.specs.ReplayFiles.{writes_of}
+use Rattle.cp_endings.specs.Writes.{FileWrite, WritesAll, StopsAt}
 use Rattle.cp_tool.specs.ReplayRuns.{replay_in, replay_made}
 use Rattle.cp_commands.specs.ReplayWords.{ReplayWords}
 use Rattle.cp_endings.specs.View.{ending_view}

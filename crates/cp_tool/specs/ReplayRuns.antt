@@ -7,8 +7,9 @@ use Rattle.cp_replay.specs.Replay.{Making, replayed}
 use Rattle.cp_replay.specs.Script.{script_of}
 use Rattle.cp_replay.specs.declared.line.Line.{Line}
 use Rattle.cp_endings.specs.Endings.{Outcome, short_seed, malformed, printed, fault}
-use Rattle.cp_tool.specs.Folders.{Files, input_of, Stops, KeepsAll, IsFile, ReadsFirst}
-use Rattle.cp_tool.specs.ReplayFiles.{IsReplayFile, WritesAll, StopsAt, writes_of}
+use Rattle.cp_endings.specs.Folders.{Files, input_of, Stops, KeepsAll, IsFile, ReadsFirst}
+use Rattle.cp_tool.specs.ReplayFiles.{IsReplayFile, writes_of}
+use Rattle.cp_endings.specs.Writes.{WritesAll, StopsAt}
 use Rattle.cp_commands.specs.ReplayWords.{ReplayWords}
 
 -- what the store is made with

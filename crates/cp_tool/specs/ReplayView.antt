@@ -1,6 +1,6 @@
 -- What contracts see of the files that `replay` writes.
 use Rattle.std.specs.Prelude.{string_bytes}
-use Rattle.cp_tool.specs.ReplayFiles as files
+use Rattle.cp_endings.specs.Writes as files
 use Rattle.cp_tool.specs.declared.file_write.FileWrite.{FileWrite}
 
 abbrev pub write_view : FileWrite → files.FileWrite

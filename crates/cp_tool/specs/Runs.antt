@@ -1,19 +1,23 @@
 -- How each command ends, over the files of its folder (this project's own).
-use Rattle.std.specs.Prelude.{ℕ, ◌≡◌, ◌⊎◌, List, length, take, drop, Option, Some, None, Result, Ok, Err, nat_lt, if◌then◌else◌, IsTrue}
+use Rattle.std.specs.Prelude.{ℕ, ◌≡◌, ◌⊎◌, List, length, Option, Some, None, Result, Ok, Err, nat_lt, if◌then◌else◌, IsTrue}
 use Rattle.cp_bytes.specs.Fields.{◌>>=◌}
 use Rattle.cp_outside.specs.Causes.{Rose}
 use Rattle.lms_ots.specs.declared.ots_type.OtsType.{OtsType}
 use Rattle.lms_tree.specs.declared.height.Height.{Height}
 use Rattle.lms_tree.specs.PublicKey.{key_reads}
 use Rattle.lms_tree.specs.Verifying.{verifies}
-use Rattle.lms_tree.specs.Secret.{Secret, public_of}
+use Rattle.lms_tree.specs.Secret.{public_of}
 use Rattle.cp_judge.specs.Judging.{judgement_of}
 use Rattle.cp_commands.specs.Commands.{Command}
-use Rattle.cp_commands.specs.Commands.Command.{Judge, Verify, Keygen, AskPut, AskGet, Accept, Audit, Replay}
+use Rattle.cp_commands.specs.Commands.Command.{Judge, Verify, Keygen, AskPut, AskGet, Accept, Audit, Replay, Certify, JudgeLife, Forgery}
 use Rattle.cp_tool.specs.AuditRuns.{AuditEnds}
 use Rattle.cp_tool.specs.ReplayRuns.{ReplayEnds}
 use Rattle.cp_tool.specs.ClientRuns.{AskGetEnds, AcceptEnds}
-pub use Rattle.cp_tool.specs.Folders.{Files, files_of, input_of, ending_of, Stops, KeepsAll, KeepsOthers, IsFile, ReadsFirst}
+use Rattle.cp_more.specs.Certifying.{CertifyEnds}
+use Rattle.cp_more.specs.Forging.{ForgeryEnds}
+use Rattle.cp_more.specs.LifeJudging.{JudgeLifeEnds}
+use Rattle.cp_more.specs.Seeds.{secret_in}
+pub use Rattle.cp_endings.specs.Folders.{Files, files_of, input_of, ending_of, Stops, KeepsAll, KeepsOthers, IsFile, ReadsFirst}
 use Rattle.cp_endings.specs.Endings.{Outcome, usage, short_seed, bad_key, judged, valid, invalid, made, fault}
 
 -- ---- judge: a key of 56 bytes, evidence of at most 512 MiB
@@ -58,9 +62,6 @@ pub record VerifyEnds (key text signature : List ℕ) (old new : Files) (ending 
 
 -- ---- keygen: a seed of 48 bytes, SEED and then I
 
-abbrev pub secret_in : Height → OtsType → List ℕ → Secret
-secret_in height ots bytes = record { height = height; ots = ots; id = take 16 (drop 32 bytes); seed = take 32 bytes }
-
 -- the public key's bytes
 abbrev pub key_made : Option (List ℕ) → List ℕ → Height → OtsType → Result (List ℕ) Outcome
 key_made seed_file seed height ots = do
@@ -93,3 +94,6 @@ RunEnds (Some (AskGet words)) old new ending = AskGetEnds words old new ending
 RunEnds (Some (Accept words)) old new ending = AcceptEnds words old new ending
 RunEnds (Some (Audit words)) old new ending = AuditEnds words old new ending
 RunEnds (Some (Replay words)) old new ending = ReplayEnds words old new ending
+RunEnds (Some (Certify words)) old new ending = CertifyEnds words old new ending
+RunEnds (Some (JudgeLife key certificate evidence)) old new ending = JudgeLifeEnds key certificate evidence old new ending
+RunEnds (Some (Forgery words)) old new ending = ForgeryEnds words old new ending

@@ -1,17 +1,9 @@
 -- What the statuses of `judge` and `verify` say (this project's own).
-use Rattle.std.specs.Prelude.{ℕ, ◌≡◌, ◌⊎◌, false, List, IsTrue}
+use Rattle.std.specs.Prelude.{ℕ, ◌≡◌, false, List, IsTrue}
 use Rattle.lms_tree.specs.PublicKey.{key_reads}
 use Rattle.lms_tree.specs.Verifying.{verifies}
 use Rattle.cp_evidence.specs.Conditions.{Convicts}
-
--- the status is this one, or a call failed, or memory was wanted
-abbrev pub Unless : ℕ → ℕ → Type 0
-Unless status wanted = (status ≡ wanted) ⊎ ((status ≡ 4) ⊎ (status ≡ 5))
-
--- The status is this one only where P holds, and where P holds it is this one, unless a call failed or
--- memory was wanted.
-abbrev pub ExactlyWhere : ℕ → ℕ → Type 0 → Type 0
-ExactlyWhere status wanted P = (status ≡ wanted → P) × (P → Unless status wanted)
+pub use Rattle.cp_endings.specs.Exactly.{ExactlyWhere, Unless}
 
 -- of a key and evidence that were within their limits
 pub record JudgeStatus (key evidence : List ℕ) (status : ℕ) : Type 0 where

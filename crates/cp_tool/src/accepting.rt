@@ -2,17 +2,17 @@
 ghost use Rattle.std.specs.Prelude.{◌≡◌, ◌≢◌, ◌≤◌, ◌-◌, ℕ, List, length, take};
 ghost use Rattle.cp_bytes.specs.Fields.{IsBytes};
 ghost use Rattle.cp_client.specs.View.{accepted_view};
-ghost use Rattle.cp_tool.specs.ClientInputs.{GivesAccepted, WritesEnds, three_view};
+ghost use Rattle.cp_tool.specs.ClientInputs.{GivesAccepted, WritesEnds};
+ghost use Rattle.cp_endings.specs.ThreeInputs.{three_view};
 ghost use Rattle.cp_tool.specs.ClientRuns.{AcceptEnds, acceptance_of};
 ghost use Rattle.cp_commands.specs.View.{accept_words_view};
 ghost use Rattle.cp_tool.specs.Runs.{files_of};
 ghost use Rattle.cp_endings.specs.View.{ending_view};
 
 use crate::judging::KEY_LIMIT;
-use crate::three_inputs::{Input, ThreeFiles, three_inputs};
 use cp_client::{Accepted, Asked, ClientRefusal, accept};
 use cp_commands::AcceptWords;
-use cp_endings::{ClientEnding, Ending};
+use cp_endings::{ClientEnding, Ending, Input, ThreeFiles, three_inputs};
 use cp_outside::Folder;
 use lms_tree::PublicKey;
 use std::alloc::Global;

@@ -3,12 +3,11 @@ ghost use Rattle.std.specs.Prelude.{◌≡◌, ℕ, List};
 ghost use Rattle.cp_tool.specs.AuditInputs.{ReadsSource, ReadsSources};
 ghost use Rattle.cp_tool.specs.AuditRuns.{named, own, own_before};
 ghost use Rattle.cp_commands.specs.View.{audit_words_view};
-ghost use Rattle.cp_tool.specs.Folders.{files_of};
+ghost use Rattle.cp_endings.specs.Folders.{files_of};
 
-use crate::inputs::input;
 use crate::judging::KEY_LIMIT;
 use cp_commands::AuditWords;
-use cp_endings::{AuditEnding, Ending, EpochPart};
+use cp_endings::{AuditEnding, Ending, EpochPart, input};
 use cp_outside::{Folder, ReadWhole, read_whole};
 use std::alloc::Global;
 

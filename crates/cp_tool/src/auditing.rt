@@ -6,7 +6,7 @@ ghost use Rattle.cp_tool.specs.AuditAnswers.{Answers, WritesEvidence};
 ghost use Rattle.cp_tool.specs.AuditInputs.{sources_view};
 ghost use Rattle.cp_tool.specs.AuditRuns.{AuditEnds};
 ghost use Rattle.cp_commands.specs.View.{audit_words_view};
-ghost use Rattle.cp_tool.specs.Folders.{files_of};
+ghost use Rattle.cp_endings.specs.Folders.{files_of};
 ghost use Rattle.cp_endings.specs.View.{ending_view};
 
 use crate::audit_sources::Sources;

@@ -3,8 +3,9 @@ ghost use Rattle.std.specs.Prelude.{◌≡◌, ◌≢◌, ◌≤◌, ℕ, List, 
 ghost use Rattle.std.specs.List.{AllByRecursion};
 ghost use Rattle.cp_replay.specs.View.{outcome_view};
 ghost use Rattle.cp_endings.specs.EpochFiles.{epoch_file};
-ghost use Rattle.cp_tool.specs.Folders.{files_of};
-ghost use Rattle.cp_tool.specs.ReplayFiles.{epoch_writes, epochs_writes, write_of, writes_of};
+ghost use Rattle.cp_endings.specs.Folders.{files_of};
+ghost use Rattle.cp_tool.specs.ReplayFiles.{epoch_writes, epochs_writes, writes_of};
+ghost use Rattle.cp_endings.specs.Writes.{write_of};
 ghost use Rattle.cp_tool.specs.ReplayInputs.{WritesFiles};
 ghost use Rattle.cp_tool.specs.ReplayView.{write_view};
 

@@ -3,8 +3,7 @@ ghost use Rattle.std.specs.Prelude.{◌≡◌, ◌≤◌};
 ghost use Rattle.cp_tool.specs.Runs.{JudgeEnds, files_of};
 ghost use Rattle.cp_endings.specs.View.{ending_view};
 
-use crate::inputs::input;
-use cp_endings::Ending;
+use cp_endings::{Ending, input};
 use cp_judge::{Judgement, judge};
 use cp_outside::Folder;
 use std::alloc::Global;

@@ -1,46 +1,18 @@
 //! The command `keygen`.
-ghost use Rattle.std.specs.Prelude.{◌≡◌, ◌+◌, ◌<◌, ◌≤◌, ℕ, List, take, drop, length};
+ghost use Rattle.std.specs.Prelude.{◌≡◌, ◌≤◌, length};
 ghost use Rattle.lms_tree.specs.Secret.{public_of};
 ghost use Rattle.cp_tool.specs.Inputs.{MakesKey};
-ghost use Rattle.cp_tool.specs.Runs.{KeygenEnds, files_of, secret_in};
+ghost use Rattle.cp_tool.specs.Runs.{KeygenEnds, files_of};
+ghost use Rattle.cp_more.specs.Seeds.{secret_in};
 ghost use Rattle.cp_endings.specs.View.{ending_view};
 
-use crate::inputs::input;
-use cp_endings::Ending;
+use cp_endings::{Ending, input};
+use cp_more::{SEED_LENGTH, part, workers};
 use cp_outside::Folder;
 use lms_ots::OtsType;
 use lms_tree::{Height, PrivateKey};
 use std::alloc::Global;
-use std::thread::{Threads, available_parallelism};
-
-/// The bytes of a seed file: SEED of 32 bytes and I of 16.
-pub(crate) const SEED_LENGTH: u64 = 48;
-
-/// The most threads that make a key.
-const MOST_WORKERS: usize = 64;
-
-/// How many threads make a key where std doesn't tell how many processors there are.
-const USUAL_WORKERS: usize = 4;
-
-// As many threads as there are processors.
-pub(crate) fn workers<R: Threads>(rt: &R) -> usize
-    ensures { 0 < result }
-{
-    match available_parallelism(rt) {
-        Ok(count) => count.get().min(MOST_WORKERS),
-        Err(_) => USUAL_WORKERS,
-    }
-}
-
-// The part of a seed file from `at` on.
-pub(crate) fn part<const N: usize>(bytes: &[u8], at: usize) -> [u8; N]
-    requires { at + N ≤ length bytes.now }
-    ensures { result ≡ take N (drop at bytes.now) }
-{
-    let mut out = [0u8; N];
-    out.copy_from_slice(&bytes[at..at + N]);
-    out
-}
+use std::thread::Threads;
 
 // The public key of the seed file's bytes.
 fn public_key<'a, R: Threads + Sync>(

@@ -7,12 +7,10 @@ mod audit_sources;
 mod auditing;
 mod drawing;
 mod file_write;
-mod inputs;
 mod judging;
 mod keygen;
 mod replaying;
 mod running;
-mod three_inputs;
 mod verifying;
 
 pub use running::run;

@@ -1,6 +1,6 @@
 //! The command `replay`.
 ghost use Rattle.std.specs.Prelude.{◌≡◌, ◌≤◌, ℕ, List, length};
-ghost use Rattle.cp_tool.specs.Folders.{files_of};
+ghost use Rattle.cp_endings.specs.Folders.{files_of};
 ghost use Rattle.cp_tool.specs.ReplayFiles.{IsReplayFile};
 ghost use Rattle.cp_tool.specs.ReplayInputs.{GivesReplay, MakesReplay, WritesReplay};
 ghost use Rattle.cp_tool.specs.ReplayRuns.{ReplayEnds};
@@ -8,19 +8,20 @@ ghost use Rattle.cp_commands.specs.View.{replay_words_view};
 ghost use Rattle.cp_endings.specs.View.{ending_view};
 
 use crate::file_write::{FileWrite, write_files};
-use crate::inputs::input;
-use crate::keygen::{SEED_LENGTH, part};
 use cp_commands::{By, ReplayWords};
-use cp_endings::Ending;
+use cp_endings::{Ending, input};
+use cp_more::{SEED_LENGTH, part, workers};
 use cp_outside::Folder;
 use cp_replay::{By as ServedBy, Replayed, Script, ScriptRefusal, replay};
 use std::alloc::Global;
+use std::thread::Threads;
 
 /// The most bytes of a script: 1 MiB.
 const SCRIPT_LIMIT: u64 = 1_048_576;
 
 // The replay of the script with the seed file's bytes, or how the command ends without one.
-fn replayed<'a>(
+fn replayed<'a, R: Threads + Sync>(
+    rt: &R,
     alloc: Global,
     words: &ReplayWords<'_>,
     seed: &[u8],
@@ -43,7 +44,9 @@ fn replayed<'a>(
         By::Shards => ServedBy::Shards,
     };
     match replay(
+        rt,
         alloc,
+        workers(rt),
         words.height,
         words.ots,
         &seed,
@@ -57,7 +60,8 @@ fn replayed<'a>(
 }
 
 // The replay of the script's file with the seed's file, or how the command ends without one.
-fn made<'a, F: Folder>(
+fn made<'a, R: Threads + Sync, F: Folder>(
+    rt: &R,
     alloc: Global,
     files: &mut F,
     words: &ReplayWords<'a>,
@@ -78,7 +82,7 @@ fn made<'a, F: Folder>(
         Ok(script) => script,
         Err(ending) => return Err(ending),
     };
-    replayed(alloc, words, seed.as_slice(), script.as_slice())
+    replayed(rt, alloc, words, seed.as_slice(), script.as_slice())
 }
 
 // Writes the files that a replay leaves.
@@ -105,7 +109,8 @@ fn write_replay<'a, F: Folder>(
 }
 
 // Runs a script through a new store, and writes the files that it leaves.
-pub(crate) fn run_replay<'a, F: Folder>(
+pub(crate) fn run_replay<'a, R: Threads + Sync, F: Folder>(
+    rt: &R,
     alloc: Global,
     files: &mut F,
     words: ReplayWords<'a>,
@@ -117,7 +122,7 @@ pub(crate) fn run_replay<'a, F: Folder>(
     ensures read_count { F.read_faults files.old ≤ F.read_faults files.new }
     ensures write_count { F.write_faults files.old ≤ F.write_faults files.new }
 {
-    let done = match made(alloc, files, &words) {
+    let done = match made(rt, alloc, files, &words) {
         Ok(done) => done,
         Err(ending) => return ending,
     };

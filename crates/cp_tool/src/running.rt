@@ -5,12 +5,15 @@ ghost use Rattle.cp_tool.specs.AuditRuns.{files_in, sources_of};
 ghost use Rattle.cp_tool.specs.AuditStatus.{StatusOfFiles};
 ghost use Rattle.cp_commands.specs.AuditWords.{AuditWords};
 ghost use Rattle.cp_commands.specs.Commands.{command_of};
-ghost use Rattle.cp_commands.specs.Commands.Command.{Audit, Judge, Verify};
+ghost use Rattle.cp_commands.specs.Commands.Command.{Audit, Certify, Forgery, Judge, JudgeLife, Verify};
+ghost use Rattle.cp_commands.specs.MoreWords.{CertifyWords, ForgeryWords};
+ghost use Rattle.cp_more.specs.MoreStatus.{CertifyStatus, ForgeryStatus, JudgeLifeStatus};
+ghost use Rattle.cp_more.specs.Seeds.{secret_in};
 ghost use Rattle.cp_endings.specs.Endings.{Outcome};
 ghost use Rattle.cp_tool.specs.PutRuns.{CommandEnds, IsAskPut};
 ghost use Rattle.cp_endings.specs.Reports.{Reports};
 ghost use Rattle.cp_tool.specs.Outputs.{IsOutput};
-ghost use Rattle.cp_tool.specs.Folders.{files_of};
+ghost use Rattle.cp_endings.specs.Folders.{files_of};
 ghost use Rattle.cp_tool.specs.Statuses.{JudgeStatus, VerifyStatus};
 ghost use Rattle.cp_endings.specs.View.{ending_view};
 
@@ -23,6 +26,7 @@ use crate::replaying::run_replay;
 use crate::verifying::run_verify;
 use cp_commands::Command;
 use cp_endings::{Ending, report};
+use cp_more::{run_certify, run_forgery, run_judge_life};
 use cp_outside::{Disk, Folder, Sink};
 use std::alloc::Global;
 use std::thread::Threads;
@@ -64,7 +68,16 @@ fn done<'a, R: Threads + Sync, F: Folder, K: Disk>(
         Some(Command::AskGet(words)) => run_ask_get(alloc, files, words),
         Some(Command::Accept(words)) => run_accept(alloc, files, words),
         Some(Command::Audit(words)) => run_audit(alloc, files, words),
-        Some(Command::Replay(words)) => run_replay(alloc, files, words),
+        Some(Command::Replay(words)) => run_replay(rt, alloc, files, words),
+        Some(Command::Certify(words)) => run_certify(rt, alloc, files, words),
+        Some(
+            Command::JudgeLife {
+                key,
+                certificate,
+                evidence,
+            },
+        ) => run_judge_life(alloc, files, key, certificate, evidence),
+        Some(Command::Forgery(words)) => run_forgery(rt, alloc, files, words),
     }
 }
 
@@ -122,6 +135,34 @@ pub fn run<R: Threads + Sync, F: Folder, K: Disk, S: Sink>(
     ensures audit { (wanted : AuditWords) → command_of (map string_bytes words.now) ≡ Some (Audit wanted)
         → IsTrue (F.tells files.old)
         → StatusOfFiles (sources_of wanted (files_in (F.file files.old) wanted)) (F.file files.new wanted.out) result }
+
+    // `certify` over a seed file that is told: 0 comes exactly where it has 48 bytes, and 3 exactly where it
+    // hasn't. With 0 the operator's key, the life's certificate and the life's seed were written in turn,
+    // and no other file changed.
+    ensures certify { (wanted : CertifyWords) (seed : List ℕ) → command_of (map string_bytes words.now) ≡ Some (Certify wanted)
+        → IsTrue (F.tells files.old) → F.file files.old wanted.seed ≡ Some seed
+        → CertifyStatus wanted seed (files_of F.Folder files.old) (files_of F.Folder files.new) result }
+
+    // `judge-life` over files that are told and within their limits: 0 comes exactly where the certificate
+    // is one under the operator's key and the evidence convicts the life that it is for, 1 exactly where it
+    // is one and the evidence doesn't, and 3 exactly where it isn't one.
+    ensures judge_life { (key certificate evidence key_bytes certificate_bytes evidence_bytes : List ℕ)
+        → command_of (map string_bytes words.now) ≡ Some (JudgeLife key certificate evidence) → IsTrue (F.tells files.old)
+        → F.file files.old key ≡ Some key_bytes → length key_bytes ≤ 60
+        → F.file files.old certificate ≡ Some certificate_bytes → length certificate_bytes ≤ 16384
+        → F.file files.old evidence ≡ Some evidence_bytes → length evidence_bytes ≤ 536870912
+        → JudgeLifeStatus key_bytes certificate_bytes evidence_bytes result }
+
+    // `forgery` over files that are told and within their limits: 0 comes exactly where the list is one of
+    // what the key signed and the signature of the text verifies and isn't of a pair of the list, 1 exactly
+    // where it is a list and the signature isn't such a one, and 3 exactly where it is none.
+    ensures forgery { (wanted : ForgeryWords) (seed signed text signature : List ℕ)
+        → command_of (map string_bytes words.now) ≡ Some (Forgery wanted) → IsTrue (F.tells files.old)
+        → F.file files.old wanted.seed ≡ Some seed → length seed ≡ 48
+        → F.file files.old wanted.signed ≡ Some signed → length signed ≤ 67108864
+        → F.file files.old wanted.text ≡ Some text → length text ≤ 1048576
+        → F.file files.old wanted.signature ≡ Some signature → length signature ≤ 16384
+        → ForgeryStatus (secret_in wanted.height wanted.ots seed) signed text signature result }
 
     // 4 comes only where a count rose.
     ensures fault { result ≡ 4 → Rose (F.read_faults files.old) (F.read_faults files.new)

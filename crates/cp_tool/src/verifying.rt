@@ -3,9 +3,8 @@ ghost use Rattle.std.specs.Prelude.{◌≡◌, ◌≤◌};
 ghost use Rattle.cp_tool.specs.Runs.{VerifyEnds, files_of, verified};
 ghost use Rattle.cp_endings.specs.View.{ending_view};
 
-use crate::inputs::input;
 use crate::judging::KEY_LIMIT;
-use cp_endings::Ending;
+use cp_endings::{Ending, input};
 use cp_outside::Folder;
 use lms_tree::{PublicKey, verify};
 use std::alloc::Global;

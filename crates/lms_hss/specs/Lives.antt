@@ -44,6 +44,10 @@ life_id key a = take 16 (sha256 (codes "CPhi" ++ key.id ++ to_be_bytes w32 a ++ 
 abbrev pub life_of : HssSecret → ℕ → Secret
 life_of key a = record { height = key.bottom; ots = key.ots; id = life_id key a; seed = life_seed key a }
 
+-- the seed file of life a: its seed and its identifier
+abbrev pub life_seed_file : HssSecret → ℕ → List ℕ
+life_seed_file key a = life_seed key a ++ life_id key a
+
 -- the top tree's signature, by its leaf a, of the public key of life a
 abbrev pub life_signed : HssSecret → ℕ → List ℕ
 life_signed key a = signature (top_of key) a (public_of (life_of key a))

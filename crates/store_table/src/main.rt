@@ -26,7 +26,7 @@ fn main(rt: HostRuntime) -> io::Result<()> {
         if line.starts_with('#') {
             println!(rt; "{line}")?;
         } else if let Some(pages) = line.strip_prefix("replay ") {
-            let answer = replay_both(alloc, lines.as_str(), pages)?;
+            let answer = replay_both(&rt, alloc, lines.as_str(), pages)?;
             print!(rt; "{answer}")?;
             lines.clear();
         } else if line.as_str() == "steps" {

@@ -4,10 +4,30 @@ use cp_replay::{By, EpochFiles, Replayed, Script, replay};
 use lms_ots::OtsType;
 use lms_tree::Height;
 use std::alloc::{AllocError, Global};
+use std::thread::Threads;
+
+// How many threads make the keys.
+const WORKERS: usize = 4;
 
 // The replay of a script with a store of height 5 and width 8.
-fn replayed(alloc: Global, script: &Script, pages: u32, by: By) -> Result<Replayed, AllocError> {
-    replay(alloc, Height::H5, OtsType::W8, &[7; 48], pages, by, script)
+fn replayed<R: Threads + Sync>(
+    rt: &R,
+    alloc: Global,
+    script: &Script,
+    pages: u32,
+    by: By,
+) -> Result<Replayed, AllocError> {
+    replay(
+        rt,
+        alloc,
+        WORKERS,
+        Height::H5,
+        OtsType::W8,
+        &[7; 48],
+        pages,
+        by,
+        script,
+    )
 }
 
 // Whether both have the same files.
@@ -39,15 +59,20 @@ fn printed(alloc: Global, done: &Replayed) -> Result<String, AllocError> {
 }
 
 /// What both bodies print of the lines of a script with so many pages.
-pub fn replay_both(alloc: Global, lines: &str, pages: &str) -> Result<String, AllocError> {
+pub fn replay_both<R: Threads + Sync>(
+    rt: &R,
+    alloc: Global,
+    lines: &str,
+    pages: &str,
+) -> Result<String, AllocError> {
     let Ok(pages) = pages.parse::<u32>() else {
         return String::from_str(alloc, "no number\n");
     };
     let Ok(script) = Script::read(alloc, lines.as_bytes()) else {
         return String::from_str(alloc, "no script\n");
     };
-    let core = replayed(alloc, &script, pages, By::Core)?;
-    let shards = replayed(alloc, &script, pages, By::Shards)?;
+    let core = replayed(rt, alloc, &script, pages, By::Core)?;
+    let shards = replayed(rt, alloc, &script, pages, By::Shards)?;
     let text = printed(alloc, &core)?;
     if agree(&core, &shards) {
         return format!(in alloc; "{text}both bodies\n");

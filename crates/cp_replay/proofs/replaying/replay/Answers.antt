@@ -5,7 +5,7 @@ use Rattle.cp_replay.proofs.Opening.{replay_done}
 use Rattle.cp_replay.proofs.replaying.replay.Goals as goal
 
 pub returns : goal.returns
-returns c =
+returns g c =
     let s = c.in_ok-run.run'.store.store in
     let key = c.in_ok-key.key in
     let writer = c.in_ok-writer.writer in

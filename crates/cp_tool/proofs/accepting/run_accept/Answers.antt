@@ -2,7 +2,7 @@ use Rattle.std.proofs.Common.{◌≡◌, ◌-◌, List, ℕ, length, take, ap, s
 use Rattle.cp_bytes.specs.Fields.{IsBytes}
 use Rattle.cp_client.specs.View.{accepted_view}
 use Rattle.cp_commands.specs.View.{accept_words_view}
-use Rattle.cp_tool.specs.Folders.{Files, files_of}
+use Rattle.cp_endings.specs.Folders.{Files, files_of}
 use Rattle.cp_tool.proofs.ClientLemmas.{accept_unread, accept_written}
 use Rattle.cp_tool.proofs.accepting.run_accept.Goals as goal
 

@@ -1,9 +1,9 @@
 use Rattle.std.proofs.Common.{List, ℕ, refl, ap, ◌∙◌}
 use Rattle.sha2.specs.Sha256.{sha256}
 use Rattle.cp_statements.specs.View.{put_request_view}
-use Rattle.cp_tool.specs.ClientInputs.{three_view}
+use Rattle.cp_endings.specs.ThreeInputs.{three_view}
 use Rattle.cp_commands.specs.View.{put_words_view}
-use Rattle.cp_tool.specs.Folders.{Files, files_of}
+use Rattle.cp_endings.specs.Folders.{Files, files_of}
 use Rattle.cp_tool.specs.PutRuns.{PutParts, put_request}
 use Rattle.cp_tool.proofs.ClientLemmas.{parts_are, put_unread, put_refused, put_unmade, put_undrawn, put_drawn}
 use Rattle.cp_tool.proofs.asking.run_ask_put.Goals as goal

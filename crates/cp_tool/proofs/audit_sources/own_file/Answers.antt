@@ -1,6 +1,6 @@
 use Rattle.std.proofs.Common.{rules, ◌≤◌, length, refl, inl, inr, ◌∙◌, arith}
 use Rattle.cp_tool.specs.AuditRuns.{content_at, own}
-use Rattle.cp_tool.proofs.Contents.{read_failed, read_ok, read_too_long, read_unkept}
+use Rattle.cp_endings.proofs.Contents.{read_failed, read_ok, read_too_long, read_unkept}
 use Rattle.cp_tool.proofs.SourceLemmas.{own_source}
 use Rattle.cp_tool.proofs.audit_sources.own_file.Goals as goal
 

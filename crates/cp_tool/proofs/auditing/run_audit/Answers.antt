@@ -3,7 +3,7 @@ use Rattle.cp_audit.specs.declared.verdict.Verdict.TheVariants.{Guilty}
 use Rattle.cp_tool.specs.AuditAnswers.{Answers}
 use Rattle.cp_tool.specs.AuditInputs.{sources_view}
 use Rattle.cp_commands.specs.View.{audit_words_view}
-use Rattle.cp_tool.specs.Folders.{Files, files_of}
+use Rattle.cp_endings.specs.Folders.{Files, files_of}
 use Rattle.cp_endings.specs.View.{ending_view}
 use Rattle.cp_tool.proofs.AuditingLemmas.{audit_guilty}
 use Rattle.cp_tool.proofs.auditing.run_audit.Goals as goal

@@ -1,5 +1,5 @@
 use Rattle.std.proofs.Common.{arith, ◌∙◌}
-use Rattle.cp_tool.specs.Folders.{Files, files_of}
+use Rattle.cp_endings.specs.Folders.{Files, files_of}
 use Rattle.cp_tool.proofs.WriteLemmas.{not_named, wrote_first, wrote_next, wrote_stops}
 use Rattle.cp_tool.proofs.file_write.write_files.Goals as goal
 

@@ -1,4 +1,4 @@
-use Rattle.cp_tool.specs.Folders.{Files, files_of}
+use Rattle.cp_endings.specs.Folders.{Files, files_of}
 use Rattle.cp_tool.proofs.WriteLemmas.{Wrote}
 use Rattle.cp_tool.proofs.file_write.write_files.Given as goal
 

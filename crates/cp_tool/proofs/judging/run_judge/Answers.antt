@@ -1,7 +1,8 @@
 use Rattle.std.proofs.Common.{ap, ◌∙◌}
 use Rattle.cp_judge.specs.Judging.{judgement_of}
 use Rattle.cp_tool.specs.Runs.{Files, files_of}
-use Rattle.cp_tool.proofs.InputLemmas.{read_later, judge_first, judge_second, judge_both}
+use Rattle.cp_tool.proofs.InputLemmas.{judge_first, judge_second, judge_both}
+use Rattle.cp_endings.proofs.InputLemmas.{read_later}
 use Rattle.cp_tool.proofs.judging.run_judge.Goals as goal
 
 pub returns-in-Err-clause-ends : goal.returns-in-Err-clause-ends

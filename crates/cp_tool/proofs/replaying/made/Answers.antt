@@ -1,8 +1,8 @@
 use Rattle.std.proofs.Common.{ℕ, List, subst}
-use Rattle.cp_tool.specs.Folders.{Files, files_of}
+use Rattle.cp_endings.specs.Folders.{Files, files_of}
 use Rattle.cp_tool.specs.ReplayInputs.{GivesReplay}
 use Rattle.cp_commands.specs.View.{replay_words_view}
-use Rattle.cp_tool.proofs.InputLemmas.{read_later}
+use Rattle.cp_endings.proofs.InputLemmas.{read_later}
 use Rattle.cp_tool.proofs.ReplayLemmas.{made_first, made_second, made_both}
 use Rattle.cp_tool.proofs.replaying.made.Goals as goal
 

@@ -1,4 +1,4 @@
-use Rattle.cp_tool.specs.Folders.{Files, files_of}
+use Rattle.cp_endings.specs.Folders.{Files, files_of}
 use Rattle.cp_commands.specs.View.{replay_words_view}
 use Rattle.cp_tool.proofs.ReplayLemmas.{replay_unwritten, replay_written}
 use Rattle.cp_tool.proofs.replaying.run_replay.Goals as goal

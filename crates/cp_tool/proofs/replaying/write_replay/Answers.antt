@@ -1,6 +1,6 @@
 use Rattle.std.proofs.Common.{List, map, ap, ◌∙◌}
 use Rattle.cp_replay.specs.View.{outcome_view}
-use Rattle.cp_tool.specs.Folders.{files_of}
+use Rattle.cp_endings.specs.Folders.{files_of}
 use Rattle.cp_tool.specs.ReplayView.{write_view}
 use Rattle.cp_tool.specs.declared.file_write.FileWrite as code
 use Rattle.cp_tool.proofs.WriteLemmas.{apart_stays}

@@ -1,10 +1,10 @@
 use Rattle.std.proofs.Common.{map, string_bytes}
 use Rattle.cp_commands.specs.Commands.{command_of}
-use Rattle.cp_tool.specs.Folders.{Files, files_of}
+use Rattle.cp_endings.specs.Folders.{Files, files_of}
 use Rattle.cp_endings.specs.View.{ending_view}
 use Rattle.cp_tool.proofs.AuditStatusLemmas.{audit_status}
 use Rattle.cp_tool.proofs.FirstLemmas.{outputs_alone, read_failed}
-use Rattle.cp_tool.proofs.StatusLemmas.{status_2, status_4, verify_status}
+use Rattle.cp_tool.proofs.StatusLemmas.{of_certify, of_forgery, of_judge_life, status_2, status_4, verify_status}
 use Rattle.cp_tool.proofs.running.run.Goals as goal
 
 pub returns-clause-usage : goal.returns-clause-usage
@@ -44,3 +44,21 @@ returns-clause-verify g c = λ key text signature key_bytes text_bytes signature
     let old : Files = files_of g.F.Folder c.args.files.now in
     let new : Files = files_of g.F.Folder c.done-ending.new.files in
     verify_status g.K.Disk _ old new _ _ _ _ _ _ _ _ c.done-ending.ensures.ends c.report.ensures.reports key text signature key_bytes text_bytes signature_bytes
+
+pub returns-clause-certify : goal.returns-clause-certify
+returns-clause-certify g c = λ wanted seed.
+    let old : Files = files_of g.F.Folder c.args.files.now in
+    let new : Files = files_of g.F.Folder c.done-ending.new.files in
+    of_certify g.K.Disk _ old new _ _ _ _ _ _ _ _ c.done-ending.ensures.ends c.report.ensures.reports wanted seed
+
+pub returns-clause-judge_life : goal.returns-clause-judge_life
+returns-clause-judge_life g c = λ key certificate evidence key_bytes certificate_bytes evidence_bytes.
+    let old : Files = files_of g.F.Folder c.args.files.now in
+    let new : Files = files_of g.F.Folder c.done-ending.new.files in
+    of_judge_life g.K.Disk _ old new _ _ _ _ _ _ _ _ c.done-ending.ensures.ends c.report.ensures.reports key certificate evidence key_bytes certificate_bytes evidence_bytes
+
+pub returns-clause-forgery : goal.returns-clause-forgery
+returns-clause-forgery g c = λ wanted seed signed text signature.
+    let old : Files = files_of g.F.Folder c.args.files.now in
+    let new : Files = files_of g.F.Folder c.done-ending.new.files in
+    of_forgery g.K.Disk _ old new _ _ _ _ _ _ _ _ c.done-ending.ensures.ends c.report.ensures.reports wanted seed signed text signature

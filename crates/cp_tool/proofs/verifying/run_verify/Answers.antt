@@ -1,6 +1,7 @@
 use Rattle.std.proofs.Common.{ap, ◌∙◌}
 use Rattle.cp_tool.specs.Runs.{Files, files_of, verified}
-use Rattle.cp_tool.proofs.InputLemmas.{read_later, verify_first, verify_second, verify_third, verify_all}
+use Rattle.cp_tool.proofs.InputLemmas.{verify_first, verify_second, verify_third, verify_all}
+use Rattle.cp_endings.proofs.InputLemmas.{read_later}
 use Rattle.cp_tool.proofs.verifying.run_verify.Goals as goal
 
 pub returns-in-Err-clause-ends : goal.returns-in-Err-clause-ends

@@ -2,7 +2,7 @@ use Rattle.std.proofs.Common.{◌≡◌, refl, inl, inr, ◌∙◌}
 use Rattle.std.proofs.lemmas.Result.{err_from_is_err_and}
 use Rattle.cp_tool.specs.AuditRuns.{AuditFiles, content_at, named, own, own_before}
 use Rattle.cp_commands.specs.View.{audit_words_view}
-use Rattle.cp_tool.specs.Folders.{Files, files_of}
+use Rattle.cp_endings.specs.Folders.{Files, files_of}
 use Rattle.cp_endings.specs.declared.epoch_part.EpochPart.TheVariants.{Families, Closing, Table, Log}
 use Rattle.cp_tool.proofs.SourceLemmas.{all_read, follows_next, follows_none, source_later, refused_1, refused_2, refused_3, refused_4, refused_5, refused_6, refused_7, refused_8}
 use Rattle.cp_tool.proofs.audit_sources.Sources.read.Goals as goal

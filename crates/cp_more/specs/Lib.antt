@@ -1,0 +1,11 @@
+pub mod Calls
+pub mod Certifying
+pub mod CertifyingCode
+pub mod Forging
+pub mod GuiltLaws
+pub mod LifeJudging
+pub mod Listing
+pub mod MoreStatus
+pub mod PairView
+pub mod Pairs
+pub mod Seeds
