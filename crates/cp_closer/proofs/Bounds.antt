@@ -18,31 +18,43 @@ use Rattle.cp_closer.specs.Taken.{put_all, texts_of, entries_in}
 use Rattle.cp_closer.specs.Kept.{BlockIsSmall, PartIsSmall}
 use Rattle.cp_closer.specs.Closer.{segments}
 use Rattle.cp_closer.specs.View.{texts_shown}
+use Rattle.cp_closer.specs.Writing.{IsLogStart, IsSegmentStart}
 
 -- ---- texts that are written field by field
 
-pub segment_spelled : (texts : List (List ℕ)) (i : ℕ) (old mid now : List ℕ) → length texts ≤ i → mid ≡ old ++ to_be_bytes w32 (length texts) → now ≡ mid ++ flat_map part (take i texts) → now ≡ old ++ segment_text texts
-unfolding segment_text
-segment_spelled texts i old mid now end a b =
-    b ∙ ap (λ (us : List (List ℕ)). mid ++ flat_map part us) (take_all i texts end) ∙ ap (λ zs. zs ++ flat_map part texts) a ∙ append_assoc old (to_be_bytes w32 (length texts)) (flat_map part texts)
-
-pub log_part_spelled : (block : ℕ) (texts : List (List ℕ)) (old mid now : List ℕ) → mid ≡ old ++ to_be_bytes w64 block → now ≡ mid ++ segment_text texts → now ≡ old ++ log_part_text (record { block = block; texts = texts })
-unfolding log_part_text
-log_part_spelled block texts old mid now a b = b ∙ ap (λ zs. zs ++ segment_text texts) a ∙ append_assoc old (to_be_bytes w64 block) (segment_text texts)
-
-pub log_spelled : (epoch : ℕ) (blocks rest : List (ℕ × Bor FrozenBlock)) (a b m now : List ℕ) → rest ≡ [] → a ≡ codes "CPl1" → b ≡ a ++ to_be_bytes w64 epoch → m ≡ b ++ to_be_bytes w32 (length blocks)
-    → now ++ flat_map log_part_text (segments (texts_shown rest)) ≡ m ++ flat_map log_part_text (segments (texts_shown blocks)) → now ≡ log_text (record { epoch = epoch; parts = segments (texts_shown blocks) })
+pub log_starts : (epoch blocks : ℕ) (a b now : List ℕ) → a ≡ codes "CPl1" → b ≡ a ++ to_be_bytes w64 epoch → now ≡ b ++ to_be_bytes w32 blocks → IsLogStart epoch blocks now
 unfolding log_text
-log_spelled epoch blocks rest a b m now end tag number count all =
+log_starts epoch blocks a b now tag number count parts many =
+    let rest : List ℕ = flat_map log_part_text parts in
+    let start : now ≡ (codes "CPl1" ++ to_be_bytes w64 epoch) ++ to_be_bytes w32 blocks = count ∙ ap (λ (zs : List ℕ). zs ++ to_be_bytes w32 blocks) (number ∙ ap (λ (zs : List ℕ). zs ++ to_be_bytes w64 epoch) tag) in
+    ap (λ (n : ℕ). codes "CPl1" ++ (to_be_bytes w64 epoch ++ (to_be_bytes w32 n ++ rest))) many
+    ∙ sym (ap (λ (zs : List ℕ). zs ++ rest) start
+    ∙ append_assoc (codes "CPl1" ++ to_be_bytes w64 epoch) (to_be_bytes w32 blocks) rest
+    ∙ append_assoc (codes "CPl1") (to_be_bytes w64 epoch) (to_be_bytes w32 blocks ++ rest))
+
+pub segment_starts : (block count : ℕ) (old mid now : List ℕ) → mid ≡ old ++ to_be_bytes w64 block → now ≡ mid ++ to_be_bytes w32 count → IsSegmentStart block count old now
+unfolding log_part_text segment_text
+segment_starts block count old mid now number size texts many =
+    let rest : List ℕ = flat_map part texts in
+    ap (λ (n : ℕ). old ++ (to_be_bytes w64 block ++ (to_be_bytes w32 n ++ rest))) many
+    ∙ sym (ap (λ (zs : List ℕ). zs ++ rest) (size ∙ ap (λ (zs : List ℕ). zs ++ to_be_bytes w32 count) number)
+    ∙ append_assoc (old ++ to_be_bytes w64 block) (to_be_bytes w32 count) rest
+    ∙ append_assoc old (to_be_bytes w64 block) (to_be_bytes w32 count ++ rest))
+
+pub texts_spelled : (texts : List (List ℕ)) (i : ℕ) (old now : List ℕ) → length texts ≤ i → now ≡ old ++ flat_map part (take i texts) → now ≡ old ++ flat_map part texts
+texts_spelled texts i old now end is = is ∙ ap (λ (us : List (List ℕ)). old ++ flat_map part us) (take_all i texts end)
+
+pub block_spelled : (block count : ℕ) (texts : List (List ℕ)) (old mid now : List ℕ) → count ≡ length texts → IsSegmentStart block count old mid → now ≡ mid ++ flat_map part texts → now ≡ old ++ log_part_text (record { block = block; texts = texts })
+block_spelled block count texts old mid now many start all = all ∙ sym (start texts (sym many))
+
+pub log_spelled : (epoch count : ℕ) (blocks rest : List (ℕ × Bor FrozenBlock)) (start now : List ℕ) → rest ≡ [] → count ≡ length blocks → IsLogStart epoch count start
+    → now ++ flat_map log_part_text (segments (texts_shown rest)) ≡ start ++ flat_map log_part_text (segments (texts_shown blocks)) → now ≡ log_text (record { epoch = epoch; parts = segments (texts_shown blocks) })
+log_spelled epoch count blocks rest start now end many is all =
     let shown : ℕ × Bor FrozenBlock → ℕ × List (List ℕ) = λ e. (e.0, e.1.now.entries.items) in
     let as_part : ℕ × List (List ℕ) → LogPart = λ e. record { block = e.0; texts = e.1 } in
     let parts : List LogPart = segments (texts_shown blocks) in
-    let counted : length blocks ≡ length parts = sym (length-map (texts_shown blocks) as_part ∙ length-map blocks shown) in
-    let now_is : now ≡ m ++ flat_map log_part_text parts = sym (append-nil now) ∙ ap (λ (r : List (ℕ × Bor FrozenBlock)). now ++ flat_map log_part_text (segments (texts_shown r))) (sym end) ∙ all in
-    let start : m ≡ (codes "CPl1" ++ to_be_bytes w64 epoch) ++ to_be_bytes w32 (length parts) = count ∙ ap (λ (zs : List ℕ). zs ++ to_be_bytes w32 (length blocks)) (number ∙ ap (λ (zs : List ℕ). zs ++ to_be_bytes w64 epoch) tag) ∙ ap (λ (n : ℕ). (codes "CPl1" ++ to_be_bytes w64 epoch) ++ to_be_bytes w32 n) counted in
-    now_is ∙ ap (λ (zs : List ℕ). zs ++ flat_map log_part_text parts) start
-    ∙ append_assoc (codes "CPl1" ++ to_be_bytes w64 epoch) (to_be_bytes w32 (length parts)) (flat_map log_part_text parts)
-    ∙ append_assoc (codes "CPl1") (to_be_bytes w64 epoch) (to_be_bytes w32 (length parts) ++ flat_map log_part_text parts)
+    let counted : length parts ≡ count = length-map (texts_shown blocks) as_part ∙ length-map blocks shown ∙ sym many in
+    sym (append-nil now) ∙ ap (λ (r : List (ℕ × Bor FrozenBlock)). now ++ flat_map log_part_text (segments (texts_shown r))) (sym end) ∙ all ∙ sym (is parts counted)
 
 -- ---- what holds of each value that is put in
 

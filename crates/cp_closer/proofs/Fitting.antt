@@ -14,7 +14,7 @@ use Rattle.cp_tips.specs.Tip as spec
 use Rattle.cp_tips.specs.declared.tip.Tip.{Tip}
 use Rattle.cp_core.specs.Store.{Store}
 use Rattle.cp_core.specs.Life.{RowItem, rows_in, rows_of, in_epoch, up_to, is_of_block, is_of_epoch, is_up_to_epoch, entries, cut, items_of, shard_of}
-use Rattle.cp_core.specs.Honest.{Honest}
+use Rattle.cp_core.specs.Honest.{Honest, StandsRightly}
 use Rattle.cp_core.specs.Frozen.{tip_from, blocks_in, frozen_block, frozen_part}
 use Rattle.cp_core.specs.declared.chronicle.Chronicle.{Chronicle}
 use Rattle.cp_core.specs.declared.item.Item.{Item}
@@ -28,7 +28,7 @@ use Rattle.cp_core.proofs.TableLemmas.{Above, Rising, member, rising_blocks}
 use Rattle.cp_closer.specs.Taken.{put_all, tips_of, count_or_none, count_of, entries_of_shard}
 use Rattle.cp_closer.specs.Closer.{CloserState, epoch_of, blocks_ascend, IsNextBlock, IsNextPart}
 use Rattle.cp_closer.specs.Kept.{taken_in}
-use Rattle.cp_closer.specs.Laws.{parts_below, parts_up_to, sealed_in, StandsRightly, IsCloserOf, PartsFit}
+use Rattle.cp_closer.specs.Laws.{parts_below, parts_up_to, sealed_in, IsCloserOf, PartsFit}
 use Rattle.cp_closer.proofs.Puts.{put_all-append}
 use Rattle.cp_closer.proofs.Inserts.{Sorted, at_block, less_cmp, put_all_sorted, put_all_at, or_else, found_each}
 use Rattle.cp_closer.proofs.Lives.{rightly, member_now, member_nowhere}

@@ -6,5 +6,6 @@ pub mod Views
 pub mod Lives
 pub mod LifeSeals
 pub mod Following
+pub mod Growing
 pub mod Shares
 pub mod Fitting

@@ -19,8 +19,8 @@ use Rattle.cp_tips.specs.declared.tip.Tip.{Tip}
 use Rattle.cp_chain.specs.Log.{LogPart, log_text}
 use Rattle.cp_core.specs.Store.{Store}
 use Rattle.cp_core.specs.Life.{RowItem, rows_in, in_epoch, up_to, entries, tip_after, cut, items_of, shard_of}
-use Rattle.cp_core.specs.Sealing.{blocks_up_to, table_at, link_after, closing_at, seal_at}
-use Rattle.cp_core.specs.Honest.{Honest}
+use Rattle.cp_core.specs.Sealing.{blocks_up_to, table_at, link_after, families_at, closing_at, seal_at}
+use Rattle.cp_core.specs.Honest.{Honest, StandsRightly}
 use Rattle.cp_core.specs.Frozen.{tip_from, blocks_in, frozen_block, frozen_part}
 use Rattle.cp_core.specs.declared.chronicle.Chronicle.{Chronicle}
 use Rattle.cp_core.specs.declared.item.Item.{Item}
@@ -34,7 +34,7 @@ use Rattle.cp_core.proofs.TableLemmas.{Above, Rising, member, rising_blocks}
 use Rattle.cp_closer.specs.Taken.{put_all, tips_of, texts_of}
 use Rattle.cp_closer.specs.Closer.{CloserState, epoch_of, segments, log_parts, closing_now, sealed_now, seal_item}
 use Rattle.cp_closer.specs.Kept.{taken_in}
-use Rattle.cp_closer.specs.Laws.{parts_below, parts_up_to, sealed_in, IsCloserOf, StandsRightly, log_at, SealsTheLife}
+use Rattle.cp_closer.specs.Laws.{parts_below, parts_up_to, sealed_in, IsCloserOf, log_at, SealsTheLife}
 use Rattle.cp_closer.proofs.Puts.{put_all-append}
 use Rattle.cp_closer.proofs.Inserts.{Sorted, at_block, at_self, not_at, cmp_less, put_all_sorted, same_values, or_else, or_else_assoc, else_none, last_at, put_all_at}
 use Rattle.cp_closer.proofs.Lives.{rightly, member_now, member_nowhere, member_everywhere, member_so_far}
@@ -226,22 +226,22 @@ closing id e link families rows = record { store = id; epoch = e; link = link; f
 item : ℕ → ℕ → Closing → List TableRow → List ℕ → SealItem
 item e leaf c rows families = record { epoch = e; leaf = leaf; text = closing_text c; table = table_text rows; families = families }
 
-closing_is : (c : CloserState) (families : List ℕ) → closing_now c families ≡ closing c.store (epoch_of c.phase) (link_after c.seals) families (rows_of c.tips)
+closing_is : (c : CloserState) → closing_now c ≡ closing c.store (epoch_of c.phase) (link_after c.seals) c.list (rows_of c.tips)
 unfolding closing
-closing_is c families =
+closing_is c =
     let as_row : ℕ × Tip → TableRow = λ e. record { block = e.0; tip = record { count = e.1.count; version = e.1.version; content = e.1.content; head = e.1.head } } in
-    ap (λ (n : ℕ). record { store = c.store; epoch = epoch_of c.phase; link = link_after c.seals; families = sha256 families; table = sha256 (table_text (rows_of c.tips)); rows = n; entries = sum_by (λ (e : ℕ × Tip). e.1.count) c.tips }) (sym (length-map c.tips as_row))
-    ∙ ap (λ (n : ℕ). record { store = c.store; epoch = epoch_of c.phase; link = link_after c.seals; families = sha256 families; table = sha256 (table_text (rows_of c.tips)); rows = length (rows_of c.tips); entries = n }) (sum_rows c.tips)
+    ap (λ (n : ℕ). record { store = c.store; epoch = epoch_of c.phase; link = link_after c.seals; families = sha256 c.list; table = sha256 (table_text (rows_of c.tips)); rows = n; entries = sum_by (λ (e : ℕ × Tip). e.1.count) c.tips }) (sym (length-map c.tips as_row))
+    ∙ ap (λ (n : ℕ). record { store = c.store; epoch = epoch_of c.phase; link = link_after c.seals; families = sha256 c.list; table = sha256 (table_text (rows_of c.tips)); rows = length (rows_of c.tips); entries = n }) (sum_rows c.tips)
 
-closing_of_life : (s : Store) (r : Chronicle) (e : ℕ) → closing s.id e (link_after r.seals) s.families (table_at r e) ≡ closing_at s r e
+closing_of_life : (s : Store) (r : Chronicle) (e : ℕ) → closing s.id e (link_after r.seals) (families_at s r e) (table_at r e) ≡ closing_at s r e
 unfolding closing closing_at
 closing_of_life s r e = refl
 
-item_now : (c : CloserState) (e : ℕ) (families : List ℕ) → seal_item e families (sealed_now c families) ≡ item e (c.leaves - c.closings + (epoch_of c.phase - 1)) (closing_now c families) (rows_of c.tips) families
+item_now : (c : CloserState) (e : ℕ) → seal_item e c.list (sealed_now c) ≡ item e (c.leaves - c.closings + (epoch_of c.phase - 1)) (closing_now c) (rows_of c.tips) c.list
 unfolding item
-item_now c e families = refl
+item_now c e = refl
 
-item_of_life : (s : Store) (r : Chronicle) (e : ℕ) → item e (s.attestations + (e - 1)) (closing_at s r e) (table_at r e) s.families ≡ seal_at s r e
+item_of_life : (s : Store) (r : Chronicle) (e : ℕ) → item e (s.attestations + (e - 1)) (closing_at s r e) (table_at r e) (families_at s r e) ≡ seal_at s r e
 unfolding item seal_at
 item_of_life s r e = refl
 
@@ -264,16 +264,17 @@ seals_any_life s r c e h of full pos =
     let rows : rows_of c.tips ≡ table_at r e = ap rows_of (full_tips s r c e of full pos) ∙ rows_are r h e in
     let link : link_after c.seals ≡ link_after r.seals = ap link_after of.seals in
     let store : c.store ≡ s.id = of.store in
-    let same : closing c.store (epoch_of c.phase) (link_after c.seals) s.families (rows_of c.tips) ≡ closing s.id e (link_after r.seals) s.families (table_at r e) = cc in
-    let text : closing_now c s.families ≡ closing_at s r e = closing_is c s.families ∙ same ∙ closing_of_life s r e in
+    let list : c.list ≡ families_at s r e = of.list 0 (omega arith) ∙ ap (families_at s r) epoch in
+    let same : closing c.store (epoch_of c.phase) (link_after c.seals) c.list (rows_of c.tips) ≡ closing s.id e (link_after r.seals) (families_at s r e) (table_at r e) = cc in
+    let text : closing_now c ≡ closing_at s r e = closing_is c ∙ same ∙ closing_of_life s r e in
     let leaf : c.leaves - c.closings + (epoch_of c.phase - 1) ≡ s.attestations + (e - 1) = omega (arith, epoch, of.leaves, of.closings) in
-    let seal : item e (c.leaves - c.closings + (epoch_of c.phase - 1)) (closing_now c s.families) (rows_of c.tips) s.families ≡ item e (s.attestations + (e - 1)) (closing_at s r e) (table_at r e) s.families = cc in
+    let seal : item e (c.leaves - c.closings + (epoch_of c.phase - 1)) (closing_now c) (rows_of c.tips) c.list ≡ item e (s.attestations + (e - 1)) (closing_at s r e) (table_at r e) (families_at s r e) = cc in
     let parts : log_parts c.parts ≡ (log_at r e).parts = ap log_parts (full_parts s r c e of full) ∙ log_parts_are r h e in (
-      item_now c e s.families ∙ seal ∙ item_of_life s r e,
+      item_now c e ∙ seal ∙ item_of_life s r e,
       ap (λ (n : ℕ). log_text (record { epoch = n; parts = log_parts c.parts })) epoch ∙ ap (λ (ps : List LogPart). log_text (record { epoch = e; parts = ps })) parts,
     )
 
 -- of an honest one too
 pub seals_the_life : (s : Store) (r : Chronicle) (c : CloserState) (e : ℕ) → Honest s r → IsCloserOf s r c → c.phase ≡ Full e → 1 ≤ e
-    → (seal_item e s.families (sealed_now c s.families) ≡ seal_at s r e) × ((sealed_now c s.families).log ≡ log_text (log_at r e))
+    → (seal_item e c.list (sealed_now c) ≡ seal_at s r e) × ((sealed_now c).log ≡ log_text (log_at r e))
 seals_the_life s r c e h = seals_any_life s r c e (rightly s r h)

@@ -8,7 +8,7 @@ use Rattle.std.proofs.lemmas.Bool.{ne_eqb}
 use Rattle.cp_chain.specs.Each.{Each}
 use Rattle.cp_chain.proofs.Each.{each_front, each_last, snoc}
 use Rattle.cp_core.specs.Life.{RowItem, row_item, rows_in, rows_of, in_epoch, up_to, entries, cut, is_of_block, is_of_epoch, is_up_to_epoch, items_of, shard_of}
-use Rattle.cp_core.specs.Honest.{Honest, IsItemOf, IsRowOf}
+use Rattle.cp_core.specs.Honest.{Honest, IsItemOf, IsRowOf, StandsRightly}
 use Rattle.cp_core.specs.Store.{Store}
 use Rattle.cp_core.specs.Frozen.{blocks_in}
 use Rattle.cp_core.specs.Sealing.{blocks_up_to}
@@ -18,7 +18,6 @@ use Rattle.cp_core.specs.declared.item.Item.TheVariants.{Frozen, Row}
 use Rattle.cp_core.proofs.EpochLemmas.{row_other, freeze_rows, count_after}
 use Rattle.cp_core.proofs.RowLemmas.{spells_reads}
 use Rattle.cp_core.proofs.TableLemmas.{member, member_blocks}
-use Rattle.cp_closer.specs.Laws.{StandsRightly}
 
 none_at_first : (b : ℕ) → rows_of [] b ≡ []
 unfolding rows_of
@@ -33,7 +32,7 @@ none_elsewhere k items b each ne = snoc (λ xs. Each (IsItemOf k) xs → rows_of
         let r : RowItem = record { pass = pass; leaf = leaf; pages = pages; entry = entry } in
         let f : IsRowOf k xs r = each_last (IsItemOf k) xs (row_item r) each in
         row_other xs r f.entry b (spells_reads r.entry f.entry f.spells) (λ same. ne (ap shard_of (sym same) ∙ f.shard)) ∙ so_far (each_front (IsItemOf k) xs (row_item r ∷ []) each)
-    step xs (Frozen m) so_far each = freeze_rows xs m b ∙ so_far (each_front (IsItemOf k) xs (Frozen m ∷ []) each)
+    step xs (Frozen m next) so_far each = freeze_rows xs m next b ∙ so_far (each_front (IsItemOf k) xs (Frozen m next ∷ []) each)
 
 only_one : (p : RowItem → Bool) (shards : List (List Item)) (j : ℕ) → ((k : ℕ) → k < length shards → (j ≡ k → ⊥) → filter p (rows_in (get_or shards k [])) ≡ []) → filter p (flat_map rows_in shards) ≡ filter p (rows_in (get_or shards j []))
 only_one p [] j h = refl

@@ -7,6 +7,7 @@ use Rattle.std.specs.Map.{keys_of}
 use Rattle.cp_core.specs.declared.phase.Phase.{Phase}
 use Rattle.cp_core.specs.declared.phase.Phase.TheVariants.{Running, Half, Full, Sealed}
 use Rattle.cp_core.specs.Frozen.{part_view}
+use Rattle.cp_core.specs.Machine.{next_or}
 use Rattle.cp_closer.specs.Taken.{put_all, tips_of}
 use Rattle.cp_closer.specs.Closer.{CloserState}
 use Rattle.cp_closer.specs.Pendings.{seals_of, sealed_of, HasRoom}
@@ -21,6 +22,8 @@ closer_view a = record {
   leaves = a.leaves;
   closings = a.closings;
   phase = a.phase;
+  list = a.list;
+  next = next_or a.next a.list;
   tips = put_all a.tips.entries (flat_map tips_of (map part_view (take (taken_in a.phase) a.parts)));
   parts = map part_view (take (taken_in a.phase) a.parts);
   seals = a.seals.items ++ seals_of a.pending;

@@ -1,12 +1,13 @@
 -- The laws of the closer: the closing of a store is its life's (this project's own).
-use Rattle.std.specs.Prelude.{ℕ, zero, suc, ◌+◌, ◌-◌, ◌^◌, ◌<◌, ◌≤◌, ◌≡◌, List, [], ◌∷◌, ◌++◌, length, map, flat_map, get_or, Ok, Err, ◌==◌, if◌then◌else◌}
+use Rattle.std.specs.Prelude.{ℕ, zero, suc, ◌+◌, ◌-◌, ◌^◌, ◌<◌, ◌≤◌, ◌≡◌, List, [], ◌∷◌, ◌++◌, length, map, flat_map, get_or, Option, Ok, Err, ◌==◌, if◌then◌else◌}
 use Rattle.std.specs.List.{AllByRecursion}
-use Rattle.cp_chain.specs.Each.{Each}
 use Rattle.cp_chain.specs.Log.{Log, log_text}
 use Rattle.cp_core.specs.Store.{Store}
-use Rattle.cp_core.specs.Life.{rows_in, in_epoch, entries, items_of}
-use Rattle.cp_core.specs.Sealing.{seal_at}
-use Rattle.cp_core.specs.Honest.{IsItemOf}
+use Rattle.cp_core.specs.Life.{rows_in, freezes, list_text, in_epoch, entries, items_of}
+use Rattle.cp_core.specs.Kept.{HaveNext}
+use Rattle.cp_core.specs.Machine.{next_or}
+use Rattle.cp_core.specs.Sealing.{families_at, seal_at}
+use Rattle.cp_core.specs.Honest.{StandsRightly}
 use Rattle.cp_core.specs.Frozen.{blocks_in, frozen_part}
 use Rattle.cp_core.specs.declared.chronicle.Chronicle.{Chronicle}
 use Rattle.cp_core.specs.declared.item.Item.{Item}
@@ -38,7 +39,7 @@ sealed_in (Full e) = e - 1
 sealed_in (Sealed e) = e
 
 -- The closer was made for the store, has taken just the parts that the shards of this life hand over, and
--- has the life's seals.
+-- has the life's seals and its epoch's list in each shard.
 pub record IsCloserOf (s : Store) (r : Chronicle) (c : CloserState) : Type 0 where
   pub store : c.store ≡ s.id
   pub leaves : c.leaves ≡ s.attestations + s.closings
@@ -46,13 +47,9 @@ pub record IsCloserOf (s : Store) (r : Chronicle) (c : CloserState) : Type 0 whe
   pub seals : c.seals ≡ r.seals
   pub parts : c.parts ≡ parts_below r.shards (epoch_of c.phase) (taken_in c.phase)
   pub tips : c.tips ≡ put_all [] (flat_map tips_of (parts_up_to r.shards (sealed_in c.phase) ++ c.parts))
+  pub list : (k : ℕ) → k < 16 → c.list ≡ list_text s.families (get_or r.shards k []) (epoch_of c.phase)
 
 -- ---- what it seals
-
--- There are sixteen shards, and each item of each stands rightly in it. The leaves of the rows may be any.
-pub record StandsRightly (r : Chronicle) : Type 0 where
-  pub sixteen : length r.shards ≡ 16
-  pub each : (k : ℕ) → k < 16 → Each (IsItemOf k) (get_or r.shards k [])
 
 -- the log of an epoch: the entries of each block that has some in it, ascending by block
 abbrev pub log_at : Chronicle → ℕ → Log
@@ -62,35 +59,48 @@ log_at r n = record { epoch = n; parts = map (λ b. record { block = b; texts = 
 -- entry up to the epoch's end, also those without one in it. Its log has the epoch's entries.
 abbrev pub SealsTheLife : Type 0
 SealsTheLife = (s : Store) (r : Chronicle) (c : CloserState) (e : ℕ) → StandsRightly r → IsCloserOf s r c → c.phase ≡ Full e → 1 ≤ e
-    → (seal_item e s.families (sealed_now c s.families) ≡ seal_at s r e) × ((sealed_now c s.families).log ≡ log_text (log_at r e))
+    → (seal_item e c.list (sealed_now c) ≡ seal_at s r e) × ((sealed_now c).log ≡ log_text (log_at r e))
 
 -- ---- each call follows the store's step
 
 -- a new closer is one of a life without seals
 abbrev pub OpensAlike : Type 0
-OpensAlike = (s : Store) (r : Chronicle) → r.seals ≡ [] → IsCloserOf s r (opening s.id (s.attestations + s.closings) s.closings)
+OpensAlike = (s : Store) (r : Chronicle) → r.seals ≡ [] → IsCloserOf s r (opening s.id (s.attestations + s.closings) s.closings s.families)
 
--- the answer is that of the store's step
+-- The answer is that of the store's step, and where the closing begins, the list for the next epoch is the
+-- one that the store keeps.
 abbrev pub BeginsAlike : Type 0
-BeginsAlike = (s : Store) (r : Chronicle) (c : CloserState) (e : ℕ) → IsCloserOf s r c → c.phase ≡ Running e → length r.seals + 1 ≡ e
-    → (begin_answer c e ≡ (if e - 1 == s.closings then Err (ClosingsOver (e - 1) s.closings) else Ok tt)) × IsCloserOf s r (after_begin c (begin_answer c e))
+BeginsAlike = (s : Store) (r : Chronicle) (c : CloserState) (e : ℕ) (next : Option (List ℕ)) → IsCloserOf s r c → c.phase ≡ Running e → length r.seals + 1 ≡ e
+    → (begin_answer c e next ≡ (if e - 1 == s.closings then Err (ClosingsOver (e - 1) s.closings) else Ok tt)) × IsCloserOf s r (after_begin c next (begin_answer c e next))
+    × ((after_begin c next (Ok tt)).next ≡ next_or next (families_at s r e))
 
 abbrev pub TakesAlike : Type 0
 TakesAlike = (s : Store) (r : Chronicle) (c : CloserState) (e k : ℕ) → IsCloserOf s r c → c.phase ≡ Half e k → IsCloserOf s r (after_take c (frozen_part k (get_or r.shards k []) e))
 
 abbrev pub SealsAlike : Type 0
 SealsAlike = (s : Store) (r : Chronicle) (c : CloserState) (e : ℕ) → StandsRightly r → IsCloserOf s r c → c.phase ≡ Full e → 1 ≤ e
-    → IsCloserOf s (record r { seals = r.seals ++ seal_at s r e ∷ [] }) (after_seal c s.families)
+    → IsCloserOf s (record r { seals = r.seals ++ seal_at s r e ∷ [] }) (after_seal c)
 
+-- the next epoch has the list that the shards froze this one with
 abbrev pub PublishesAlike : Type 0
-PublishesAlike = (s : Store) (r : Chronicle) (c : CloserState) (e : ℕ) → IsCloserOf s r c → c.phase ≡ Sealed e → IsCloserOf s r (after_publish c)
+PublishesAlike = (s : Store) (r : Chronicle) (c : CloserState) (e : ℕ) → IsCloserOf s r c → c.phase ≡ Sealed e → HaveNext s r e 16 c.next → IsCloserOf s r (after_publish c)
 
--- what the shards take on later does not matter, as long as they hand over the same parts
+-- ---- a life that goes on
+
+-- it has the same seals, and each shard has its items and may have more behind them
+pub record IsContinuedBy (r more : Chronicle) : Type 0 where
+  pub seals : more.seals ≡ r.seals
+  pub items : (k : ℕ) → k < 16 → (rest : List Item) × (get_or more.shards k [] ≡ get_or r.shards k [] ++ rest)
+
+-- each shard has frozen all epochs that are sealed, and also the one that is being closed where its part
+-- of it was taken
+pub record HaveFrozen (r : Chronicle) (phase : Phase) : Type 0 where
+  pub sealed : (k : ℕ) → k < 16 → sealed_in phase ≤ freezes (get_or r.shards k [])
+  pub taken : (k : ℕ) → k < taken_in phase → (k < 16) × (epoch_of phase ≤ freezes (get_or r.shards k []))
+
+-- what the shards take on later does not matter: what they handed over stays
 abbrev pub StaysAlike : Type 0
-StaysAlike = (s : Store) (r more : Chronicle) (c : CloserState) → IsCloserOf s r c → more.seals ≡ r.seals
-    → parts_up_to more.shards (sealed_in c.phase) ≡ parts_up_to r.shards (sealed_in c.phase)
-    → parts_below more.shards (epoch_of c.phase) (taken_in c.phase) ≡ parts_below r.shards (epoch_of c.phase) (taken_in c.phase)
-    → IsCloserOf s more c
+StaysAlike = (s : Store) (r more : Chronicle) (c : CloserState) → IsCloserOf s r c → HaveFrozen r c.phase → IsContinuedBy r more → StandsRightly more → IsCloserOf s more c
 
 -- A part that a shard of the life hands over is one that can be taken: its texts have lengths of four
 -- bytes, and the shard has at most 2^27 rows.

@@ -5,3 +5,4 @@ pub mod View
 pub mod Inside
 pub mod Pendings
 pub mod Laws
+pub mod Writing

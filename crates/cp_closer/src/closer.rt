@@ -1,8 +1,11 @@
 //! The closer.
-ghost use Rattle.std.specs.Prelude.{◌≡◌, ◌≤◌, ◌++◌, OnOk, OnErr, Some, vec_len, vec_capacity};
+ghost use Rattle.std.specs.Prelude.{◌≡◌, ◌≤◌, ◌++◌, OnOk, OnErr, Some, length, vec_len, vec_capacity};
 ghost use Rattle.cp_core.specs.Frozen.{part_view};
-ghost use Rattle.cp_closer.specs.Closer.{opening, begin_answer, after_begin, IsNextPart, after_take, IsFull, after_seal, IsSealed, after_publish, epoch_of};
+ghost use Rattle.cp_core.specs.Machine.{next_or};
 ghost use Rattle.cp_core.specs.Sealing.{link_after};
+ghost use Rattle.cp_core.specs.Store.{SpellsFamilies};
+ghost use Rattle.cp_closer.specs.Closer.{opening, begin_with, begin_answer, after_begin, IsNextPart, after_take, IsFull, after_seal, IsSealed, after_publish, epoch_of};
+ghost use Rattle.cp_closer.specs.Kept.{SealsFit, NextFits};
 ghost use Rattle.cp_closer.specs.Pendings.{seals_of, HasRoom};
 
 use crate::log::log;
@@ -10,6 +13,7 @@ use crate::pending::{Heading, Pending};
 use crate::tips::note_parts;
 use crate::{CloseRefusal, FrozenPart, OutOfMemory, Phase, SealItem, SealedText, Seals};
 use cp_bytes::digest;
+use cp_families::SharedList;
 use cp_tips::Tip;
 use std::alloc::Global;
 use std::array;
@@ -23,6 +27,10 @@ pub struct Closer {
     leaves: u32,
     closings: u32,
     phase: Phase,
+    /// The epoch's families list.
+    list: SharedList,
+    /// The next epoch's; none where that has this one's.
+    next: Option<SharedList>,
     tips: BTreeMap<u64, Tip>,
     parts: [FrozenPart; 16],
     seals: Vec<SealItem>,
@@ -42,17 +50,26 @@ impl Model for Closer {
 }
 
 impl Closer {
-    /// A closer in epoch 1. `store` is SHA-256 of the store's key, `leaves` the number of all its leaves,
-    /// and the last `closings` of them, no more than all, are for closings. It takes no memory.
-    pub fn new(alloc: Global, store: [u8; 32], leaves: u32, closings: u32) -> Closer
+    /// A closer in epoch 1, whose families list is `first`. `store` is SHA-256 of the store's key,
+    /// `leaves` the number of all its leaves, and the last `closings` of them, no more than all, are for
+    /// closings. It takes no memory.
+    pub fn new(
+        alloc: Global,
+        store: [u8; 32],
+        leaves: u32,
+        closings: u32,
+        first: SharedList,
+    ) -> Closer
         requires { closings ≤ leaves }
-        ensures { result ≡ opening store leaves closings }
+        ensures { result ≡ opening store leaves closings first }
     {
         Closer {
             store,
             leaves,
             closings,
             phase: Phase::Running { epoch: 1 },
+            list: first,
+            next: None,
             tips: BTreeMap::new(alloc),
             parts: no_parts(alloc),
             seals: Vec::new(alloc),
@@ -67,27 +84,52 @@ impl Closer {
         self.phase
     }
 
-    /// Begins the closing of `epoch`; where it has begun, nothing changes.
+    /// The families list of the epoch.
+    pub fn list(&self) -> &SharedList
+        ensures list { result.now ≡ self.now.list }
+        ensures reads { SpellsFamilies result.now }
+    {
+        let _bytes = self.list.as_slice();
+        &self.list
+    }
+
+    /// The families list of the next epoch, once the closing of this one has begun; before that the
+    /// epoch's own.
+    pub fn next(&self) -> &SharedList
+        ensures next { result.now ≡ self.now.next }
+        ensures reads { SpellsFamilies result.now }
+    {
+        let next = next_or(&self.next, &self.list);
+        let _bytes = next.as_slice();
+        next
+    }
+
+    /// Begins the closing of `epoch`, with this families list for the next epoch, or with the epoch's own
+    /// where none is named. Where it has begun with the same list, nothing changes; lists are the same by
+    /// their bytes.
     ///
     /// `WrongEpoch` comes where another epoch is to be closed. In `Running`, `ClosingsOver` comes where
-    /// all leaves for closings are used. It takes no memory.
-    pub fn begin(&mut self, epoch: u64) -> Result<(), CloseRefusal>
-        ensures answer { result ≡ begin_answer self.old epoch }
-        ensures after { self.new ≡ after_begin self.old result }
+    /// all leaves for closings are used. In the other phases, `OtherList` comes where the closing has
+    /// begun with another list. It takes no memory.
+    pub fn begin(&mut self, epoch: u64, next: Option<SharedList>) -> Result<(), CloseRefusal>
+        ensures answer { result ≡ begin_answer self.old epoch next }
+        ensures after { self.new ≡ after_begin self.old next result }
     {
         let current = epoch_of(self.phase);
         if epoch != current {
             return Err(CloseRefusal::WrongEpoch { current });
         }
-        if let Phase::Running { epoch } = self.phase {
-            if epoch - 1 == u64::from(self.closings) {
-                return Err(CloseRefusal::ClosingsOver {
-                    sealed: epoch - 1,
-                    limit: u64::from(self.closings),
-                });
-            }
-            self.phase = Phase::Half { epoch, taken: 0 };
+        let Phase::Running { epoch } = self.phase else {
+            return begin_again(&next, &self.next, &self.list);
+        };
+        if epoch - 1 == u64::from(self.closings) {
+            return Err(CloseRefusal::ClosingsOver {
+                sealed: epoch - 1,
+                limit: u64::from(self.closings),
+            });
         }
+        self.next = next;
+        self.phase = Phase::Half { epoch, taken: 0 };
         Ok(())
     }
 
@@ -110,11 +152,11 @@ impl Closer {
         };
     }
 
-    /// Makes, in `Full`, the closing's text, the table and the log of the epoch, under the families list's
-    /// text, and keeps the seal. Where memory is wanted it stays `Full`, and a later call gives the same.
-    pub fn seal(&mut self, alloc: Global, families: &[u8]) -> Result<(), OutOfMemory>
+    /// Makes, in `Full`, the closing's text, the table and the log of the epoch, under its families list,
+    /// and keeps the seal. Where memory is wanted it stays `Full`, and a later call gives the same.
+    pub fn seal(&mut self, alloc: Global) -> Result<(), OutOfMemory>
         requires { IsFull self.old.phase }
-        ensures sealed { OnOk result (self.new ≡ after_seal self.old families.now) }
+        ensures sealed { OnOk result (self.new ≡ after_seal self.old) }
         ensures unchanged { OnErr result (self.new ≡ self.old) }
     {
         let epoch = epoch_of(self.phase);
@@ -125,7 +167,7 @@ impl Closer {
             link: link(&self.seals),
         };
         self.seals.reserve(1)?;
-        let families = Vec::from_slice(alloc, families)?;
+        let families = Vec::from_slice(alloc, self.list.as_slice())?;
         let log = log(alloc, epoch, &self.parts)?;
         note_parts(&mut self.tips, &self.parts)?;
         let pending = Pending::new(alloc, heading, &self.tips, log, families)?;
@@ -146,7 +188,8 @@ impl Closer {
         }
     }
 
-    /// Goes on from `Sealed` to the next epoch. It takes no memory.
+    /// Goes on from `Sealed` to the next epoch, whose list is the one that the closing began with. It
+    /// takes no memory.
     pub fn published(&mut self)
         requires { IsSealed self.old.phase }
         ensures { self.new ≡ after_publish self.old }
@@ -154,6 +197,9 @@ impl Closer {
         let epoch = epoch_of(self.phase);
         if let Some(pending) = self.pending.take() {
             let _pushed = self.seals.push(pending.into_item());
+        }
+        if let Some(next) = self.next.take() {
+            self.list = next;
         }
         self.phase = Phase::Running { epoch: epoch + 1 };
     }
@@ -164,6 +210,18 @@ impl Closer {
     {
         let Closer { seals, pending, .. } = self;
         Seals::from_vec(with_pending(seals, pending))
+    }
+
+    /// There are no more leaves for closings than leaves. The epoch is one that can be closed, or the first
+    /// that can't, and each epoch before it has a seal, and it too once it is sealed. Where no closing has
+    /// begun, the list for the next epoch is this one's. This is a law of every closer, and the call does
+    /// nothing.
+    pub fn stands_rightly(&self)
+        ensures within { self.now.closings ≤ self.now.leaves }
+        ensures seals { SealsFit self.now.closings (length self.now.seals) self.now.phase }
+        ensures next { NextFits self.now.list self.now.next self.now.phase }
+    {
+        let _ = &self.phase;
     }
 }
 
@@ -187,6 +245,32 @@ fn epoch_of(phase: Phase) -> u64
         | Phase::Half { epoch, .. }
         | Phase::Full { epoch }
         | Phase::Sealed { epoch } => epoch,
+    }
+}
+
+// The list that is named, or else this one.
+fn next_or<'a>(next: &'a Option<SharedList>, now: &'a SharedList) -> &'a SharedList
+    ensures { result.now ≡ next_or next.now now.now }
+{
+    match next {
+        Some(next) => next,
+        None => now,
+    }
+}
+
+// Whether an order for a closing that has begun names the list that it began with; an order or a closing
+// without a list has this one.
+fn begin_again(
+    asked: &Option<SharedList>,
+    begun: &Option<SharedList>,
+    list: &SharedList,
+) -> Result<(), CloseRefusal>
+    ensures { result ≡ begin_with (next_or asked.now list.now) (next_or begun.now list.now) }
+{
+    if next_or(asked, list).as_slice() == next_or(begun, list).as_slice() {
+        Ok(())
+    } else {
+        Err(CloseRefusal::OtherList)
     }
 }
 

@@ -2,7 +2,7 @@
 ghost use Rattle.std.specs.Prelude.{◌≡◌, ◌++◌, ◌<◌, ◌≤◌, ◌^◌, [], length, map, flat_map, OnOk, IfOk};
 ghost use Rattle.std.specs.List.{AllByRecursion};
 ghost use Rattle.std.specs.BTreeMap.{btree_map_len};
-ghost use Rattle.cp_chain.specs.Segment.{SegmentFits, segment_text};
+ghost use Rattle.cp_chain.specs.Segment.{PartFits, SegmentFits};
 ghost use Rattle.cp_chain.specs.Log.{log_text, log_part_text};
 ghost use Rattle.cp_core.specs.Frozen.{part_view};
 ghost use Rattle.cp_closer.specs.Taken.{put_all, texts_of};
@@ -11,6 +11,7 @@ ghost use Rattle.cp_closer.specs.Closer.{segments, log_parts};
 ghost use Rattle.cp_closer.specs.Kept.{PartIsSmall};
 ghost use Rattle.cp_closer.specs.View.{texts_shown};
 
+use crate::writing::{add_text, start_log, start_segment};
 use cp_bytes::{Bytes, OutOfMemory};
 use cp_core::{FrozenBlock, FrozenPart};
 use std::alloc::Global;
@@ -21,7 +22,8 @@ fn add_part<'a>(
     order: &mut BTreeMap<u64, &'a FrozenBlock>,
     part: &'a FrozenPart,
 ) -> Result<(), OutOfMemory>
-    ensures { OnOk result (texts_shown order.new.entries ≡ put_all (texts_shown order.old.entries) (texts_of (part_view part.now))) }
+    ensures { OnOk result (texts_shown order.new.entries
+        ≡ put_all (texts_shown order.old.entries) (texts_of (part_view part.now))) }
 {
     for x in &part.blocks {
         order.insert(x.block, x)?;
@@ -31,7 +33,8 @@ fn add_part<'a>(
 
 /// The blocks of all parts, ascending.
 fn in_order(alloc: Global, parts: &[FrozenPart]) -> Result<BTreeMap<u64, &FrozenBlock>, OutOfMemory>
-    ensures { IfOk result (λ m. texts_shown m.entries ≡ put_all [] (flat_map texts_of (map part_view parts.now))) }
+    ensures { IfOk result (λ m. texts_shown m.entries
+        ≡ put_all [] (flat_map texts_of (map part_view parts.now))) }
 {
     let mut order = BTreeMap::new(alloc);
     for part in parts {
@@ -40,37 +43,26 @@ fn in_order(alloc: Global, parts: &[FrozenPart]) -> Result<BTreeMap<u64, &Frozen
     Ok(order)
 }
 
-/// Appends the segment of these texts.
-fn add_segment(out: &mut Vec<u8>, texts: &[Bytes]) -> Result<(), OutOfMemory>
-    requires { SegmentFits texts.now }
-    ensures { OnOk result (out.new.items ≡ out.old.items ++ segment_text texts.now) }
+/// Appends these texts, each with its length.
+fn add_texts(out: &mut Vec<u8>, texts: &[Bytes]) -> Result<(), OutOfMemory>
+    requires { AllByRecursion PartFits texts.now }
+    ensures { OnOk result (out.new.items ≡ out.old.items ++ flat_map part texts.now) }
 {
-    let count = texts.len() as u32;
-    out.extend_from_slice(&count.to_be_bytes())?;
     for text in texts {
         add_text(out, text.as_slice())?;
     }
     Ok(())
 }
 
-/// Appends a text with its length.
-fn add_text(out: &mut Vec<u8>, text: &[u8]) -> Result<(), OutOfMemory>
-    requires { length text.now < 2 ^ 32 }
-    ensures { OnOk result (out.new.items ≡ out.old.items ++ part text.now) }
-{
-    let len = text.len() as u32;
-    out.extend_from_slice(&len.to_be_bytes())?;
-    out.extend_from_slice(text)?;
-    Ok(())
-}
-
 /// Appends a block and its segment.
 fn add_block(out: &mut Vec<u8>, block: u64, x: &FrozenBlock) -> Result<(), OutOfMemory>
     requires { SegmentFits x.now.entries.items }
-    ensures { OnOk result (out.new.items ≡ out.old.items ++ log_part_text (record { block = block; texts = x.now.entries.items })) }
+    ensures { OnOk result (out.new.items
+        ≡ out.old.items ++ log_part_text (record { block = block; texts = x.now.entries.items })) }
 {
-    out.extend_from_slice(&block.to_be_bytes())?;
-    add_segment(out, x.entries.as_slice())
+    let count = x.entries.len() as u32;
+    start_segment(out, block, count)?;
+    add_texts(out, x.entries.as_slice())
 }
 
 /// The text of the log of these blocks.
@@ -81,12 +73,11 @@ fn written(
 ) -> Result<Vec<u8>, OutOfMemory>
     requires few { btree_map_len order.now < 2 ^ 32 }
     requires fit { AllByRecursion (λ e. SegmentFits e.1) (texts_shown order.now.entries) }
-    ensures { IfOk result (λ out. out.items ≡ log_text (record { epoch = epoch; parts = segments (texts_shown order.now.entries) })) }
+    ensures { IfOk result (λ out. out.items
+        ≡ log_text (record { epoch = epoch; parts = segments (texts_shown order.now.entries) })) }
 {
-    let mut out = Vec::from_slice(alloc, b"CPl1")?;
-    out.extend_from_slice(&epoch.to_be_bytes())?;
     let count = order.len() as u32;
-    out.extend_from_slice(&count.to_be_bytes())?;
+    let mut out = start_log(alloc, epoch, count)?;
     for (block, x) in order {
         add_block(&mut out, *block, x)?;
     }
@@ -96,7 +87,8 @@ fn written(
 /// The text of the log of these parts of the epoch.
 pub(crate) fn log(alloc: Global, epoch: u64, parts: &[FrozenPart]) -> Result<Vec<u8>, OutOfMemory>
     requires { AllByRecursion PartIsSmall (map part_view parts.now) × (length parts.now ≤ 16) }
-    ensures { IfOk result (λ out. out.items ≡ log_text (record { epoch = epoch; parts = log_parts (map part_view parts.now) })) }
+    ensures { IfOk result (λ out. out.items
+        ≡ log_text (record { epoch = epoch; parts = log_parts (map part_view parts.now) })) }
 {
     let order = in_order(alloc, parts)?;
     written(alloc, epoch, &order)

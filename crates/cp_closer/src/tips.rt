@@ -12,8 +12,10 @@ use std::collections::BTreeMap;
 
 /// Puts in the tips of a part's blocks. Where memory is wanted, the first ones may be in.
 pub(crate) fn note_part(tips: &mut BTreeMap<u64, Tip>, part: &FrozenPart) -> Result<(), OutOfMemory>
-    ensures noted { OnOk result (tips.new.entries ≡ put_all tips.old.entries (tips_of (part_view part.now))) }
-    ensures partly { OnErr result (IsPartly tips.old.entries (tips_of (part_view part.now)) tips.new.entries) }
+    ensures noted { OnOk result (tips.new.entries
+        ≡ put_all tips.old.entries (tips_of (part_view part.now))) }
+    ensures partly { OnErr result (IsPartly tips.old.entries
+        (tips_of (part_view part.now)) tips.new.entries) }
 {
     for x in &part.blocks {
         tips.insert(x.block, x.after)?;
@@ -26,8 +28,10 @@ pub(crate) fn note_parts(
     tips: &mut BTreeMap<u64, Tip>,
     parts: &[FrozenPart],
 ) -> Result<(), OutOfMemory>
-    ensures noted { OnOk result (tips.new.entries ≡ put_all tips.old.entries (flat_map tips_of (map part_view parts.now))) }
-    ensures partly { OnErr result (IsPartly tips.old.entries (flat_map tips_of (map part_view parts.now)) tips.new.entries) }
+    ensures noted { OnOk result (tips.new.entries
+        ≡ put_all tips.old.entries (flat_map tips_of (map part_view parts.now))) }
+    ensures partly { OnErr result (IsPartly tips.old.entries
+        (flat_map tips_of (map part_view parts.now)) tips.new.entries) }
 {
     for part in parts {
         note_part(tips, part)?;

@@ -1,7 +1,7 @@
 -- The attestation and the content of what is booked.
-use Rattle.std.proofs.Common.{◌≡◌, ℕ, ◌<◌, ◌^◌, Bool, true, false, cond, not, ◌&&◌, eqb, List, [], ◌∷◌, ◌++◌, length, Some, refl, sym, ap, subst, ◌∙◌, arith}
+use Rattle.std.proofs.Common.{◌≡◌, ℕ, ◌<◌, ◌^◌, Bool, true, false, cond, not, ◌&&◌, eqb, List, [], ◌∷◌, ◌++◌, length, get_or, Option, Some, None, Result, Ok, Err, refl, sym, ap, subst, ◌∙◌, arith}
 use Rattle.std.specs.List.{find}
-use Rattle.std.proofs.lemmas.List.{map-append}
+use Rattle.std.proofs.lemmas.List.{append-nil, map-append}
 use Rattle.std.proofs.lemmas.Bool.{eqb-true, eqb-false, eq-eqb, not-false}
 use Rattle.cp_core.specs.declared.request.Request.TheVariants as ask
 use Rattle.cp_core.proofs.SignedLemmas.IsBooked.{Repeat, First}
@@ -9,6 +9,7 @@ use Rattle.cp_statements.specs.declared.put_request.PutRequest.{PutRequest}
 use Rattle.cp_statements.specs.declared.get_request.GetRequest.{GetRequest}
 use Rattle.cp_bytes.specs.Hashes.{genesis, head_after}
 use Rattle.cp_chain.proofs.Chain.{head_after_length, head_length}
+use Rattle.cp_chain.specs.Each.{Each}
 use Rattle.cp_chain.specs.Legal.{LegalFrom, Put, latest, put_at, put_by}
 use Rattle.cp_core.proofs.CallLemmas.{entry_fits, latest_now}
 use Rattle.cp_core.proofs.ContentLemmas.{new_block}
@@ -19,12 +20,12 @@ use Rattle.cp_core.proofs.RowLemmas.{spells_same}
 use Rattle.cp_core.proofs.RuleLemmas.{in_split}
 use Rattle.cp_core.proofs.SealLemmas.{genesis_length}
 use Rattle.cp_core.proofs.SearchLemmas.{found_first, found_in}
-use Rattle.cp_core.proofs.SignedLemmas.{Again, IsBooked}
+use Rattle.cp_core.proofs.SignedLemmas.{Again, IsBooked, booked_answer, settled_booked}
 use Rattle.cp_core.specs.Booking.{Booking}
-use Rattle.cp_core.specs.Calls.{asked_text, attested, booked, content_at, content_for, epoch_now, found, head_of, is_overtaken, latest_of, new_entry, new_row, text_again}
-use Rattle.cp_core.specs.Honest.{HonestShard, SignedRow, epoch_side}
+use Rattle.cp_core.specs.Calls.{added, answer_in, asked_text, attested, booked, content_at, content_for, epoch_now, found, head_of, is_overtaken, latest_of, new_entry, new_row, settled, shard_step, text_again, unless_settled, with_leaf}
+use Rattle.cp_core.specs.Honest.{HonestShard, IsItemOf, IsSignedIn, SignedRow, epoch_side}
 use Rattle.cp_core.specs.Kept.{IsContentOf, Keeps}
-use Rattle.cp_core.specs.Laws.{Attests, ContentFits}
+use Rattle.cp_core.specs.Laws.{Attests, BookingsAreSigned, ContentFits}
 use Rattle.cp_core.specs.Life.{RowItem, as_row, entries, in_epoch, items_of, row_item, rows_of, shard_of}
 use Rattle.cp_core.specs.Machine.{State, with_row}
 use Rattle.cp_core.specs.Requests.{RequestFits, block_of, request_text}
@@ -34,6 +35,9 @@ use Rattle.cp_core.specs.declared.chronicle.Chronicle.{Chronicle}
 use Rattle.cp_core.specs.declared.content.Content.{Content}
 use Rattle.cp_core.specs.declared.item.Item.{Item}
 use Rattle.cp_core.specs.declared.item.Item.TheVariants.{Frozen, Row}
+use Rattle.cp_core.specs.declared.leaves_over.LeavesOver.{LeavesOver}
+use Rattle.cp_core.specs.declared.answer.Answer.{Answer}
+use Rattle.cp_core.specs.declared.answer.Answer.TheVariants.{Booked}
 use Rattle.cp_core.specs.declared.request.Request.{Request}
 use Rattle.cp_families.specs.Writers.{request_of}
 use Rattle.cp_statements.proofs.FixedTexts.{attestation_again}
@@ -46,7 +50,7 @@ use Rattle.cp_statements.specs.View.{get_request_view, put_request_view}
 
 row_of_item : (x : Item) (r : RowItem) → as_row x ≡ Some r → x ≡ row_item r
 row_of_item (Row pass leaf pages entry) r e = let same : record { pass = pass; leaf = leaf; pages = pages; entry = entry } ≡ r = cc in ap row_item same
-row_of_item (Frozen n) r e = absurd cc
+row_of_item (Frozen n next) r e = absurd cc
 
 -- the row that the call made lies behind some items
 pub found_lies : (request : Request) (n : ℕ) (items : List Item) (r : RowItem) → found_in request n items ≡ Some r → (front : List Item) × (back : List Item) × (items ≡ front ++ row_item r ∷ back)
@@ -59,48 +63,84 @@ found_lies request n (x ∷ xs) r e = go (item_is_call request n x) e (λ h. fou
 
 -- ---- what was signed
 
-pub signed_again : (s : Store) (st : State) (request : Request) (b : Booking) → Keeps s st → (w : Again s.id (items_of st.life (block_of request)) st.contents request b) → (x : SignedRow s st.life b.leaf b.text) × (x.entry ≡ w.entry)
+-- in one shard: a call that was made before
+signed_in_again : (store : List ℕ) (k : ℕ) (items : List Item) (contents : List Content) (request : Request) (b : Booking) → Each (IsItemOf k) items → (w : Again store items contents request b) → (x : IsSignedIn store items b.leaf b.text) × (x.entry ≡ w.entry)
 unfolding text_again
-signed_again s st request b keeps w =
-    let items = items_of st.life (block_of request) in
-    let k = shard_of (block_of request) in
-    let h = keeps.honest.shards k (omega arith) in
+signed_in_again store k items contents request b each w =
     let lies = found_lies request (epoch_now items) items w.row (sym (found_first request items) ∙ w.found_row) in
-    let p = in_split k items lies.0 lies.1 w.row w.entry h.each lies.2 w.reads in (
+    let p = in_split k items lies.0 lies.1 w.row w.entry each lies.2 w.reads in (
       record {
-        shard = k;
         front = lies.0;
         row = w.row;
+        back = lies.1;
         entry = w.entry;
-        at = (omega arith, lies.1, lies.2);
+        at = lies.2;
         spells = p.spells;
         leaf_is = ap (λ (x : Booking). x.leaf) w.booking;
-        text_is = ap (λ (x : Booking). x.text) w.booking ∙ ap (λ (ts : List (List ℕ)). attestation_text (attested s.id (head_after (genesis w.entry.block) ts) w.entry)) p.before;
+        text_is = ap (λ (x : Booking). x.text) w.booking ∙ ap (λ (ts : List (List ℕ)). attestation_text (attested store (head_after (genesis w.entry.block) ts) w.entry)) p.before;
       },
       refl,
     )
 
-pub signed_new : (s : Store) (st : State) (pass : ℕ) (request : Request) (b : Booking) → StoreFits s → Keeps s st → RequestFits request → b ≡ booked s.id (items_of st.life (block_of request)) st.contents request st.drawn
-    → (x : SignedRow s (with_row st request (row_item (new_row (items_of st.life (block_of request)) pass request st.drawn))).life b.leaf b.text) × (x.entry ≡ new_entry (items_of st.life (block_of request)) request)
+-- and a new one
+signed_in_new : (store : List ℕ) (k : ℕ) (items : List Item) (contents : List Content) (pass : ℕ) (request : Request) (leaf : ℕ) (b : Booking) → Each (IsItemOf k) items → RequestFits request → length (rows_of items (block_of request)) < 2 ^ 64 → b ≡ booked store items contents request leaf
+    → (x : IsSignedIn store (items ++ row_item (new_row items pass request leaf) ∷ []) b.leaf b.text) × (x.entry ≡ new_entry items request)
 unfolding booked
-signed_new s st pass request b small keeps fits is =
-    let items = items_of st.life (block_of request) in
-    let k = shard_of (block_of request) in
-    let e = new_entry items request in
-    let h = keeps.honest.shards k (omega arith) in
-    let room : length (rows_of items (block_of request)) < 2 ^ 64 = omega (arith, rows_of_few items (block_of request), keeps.counted k (omega arith), keeps.drawn_within, small.leaves) in (
+signed_in_new store k items contents pass request leaf b each fits room is =
+    let e = new_entry items request in (
       record {
-        shard = k;
         front = items;
-        row = new_row items pass request st.drawn;
+        row = new_row items pass request leaf;
+        back = [];
         entry = e;
-        at = (omega arith, [], at_same st.life k (row_item (new_row items pass request st.drawn)) keeps.honest.sixteen (omega arith));
-        spells = record { spelled = refl; fits = entry_fits k items request h.each fits room };
+        at = refl;
+        spells = record { spelled = refl; fits = entry_fits k items request each fits room };
         leaf_is = ap (λ (x : Booking). x.leaf) is;
-        text_is = ap (λ (x : Booking). x.text) is ∙ ap (λ (d : ℕ). attestation_text (attested s.id (head_of items d) e)) (sym (new_block items request));
+        text_is = ap (λ (x : Booking). x.text) is ∙ ap (λ (d : ℕ). attestation_text (attested store (head_of items d) e)) (sym (new_block items request));
       },
       refl,
     )
+
+-- a row of one shard of a life
+in_life : (s : Store) (r : Chronicle) (k : ℕ) (items : List Item) (leaf : ℕ) (text : List ℕ) → k < 16 → get_or r.shards k [] ≡ items → (x : IsSignedIn s.id items leaf text) → (y : SignedRow s r leaf text) × (y.entry ≡ x.entry)
+in_life s r k items leaf text lt is x =
+    (record { shard = k; front = x.front; row = x.row; entry = x.entry; at = (lt, x.back, is ∙ x.at); spells = x.spells; leaf_is = x.leaf_is; text_is = x.text_is }, refl)
+
+pub signed_again : (s : Store) (st : State) (request : Request) (b : Booking) → Keeps s st → (w : Again s.id (items_of st.life (block_of request)) st.contents request b) → (x : SignedRow s st.life b.leaf b.text) × (x.entry ≡ w.entry)
+signed_again s st request b keeps w =
+    let items = items_of st.life (block_of request) in
+    let k = shard_of (block_of request) in
+    let x = signed_in_again s.id k items st.contents request b (keeps.honest.shards k (omega arith)).each w in
+    let y = in_life s st.life k items b.leaf b.text (omega arith) refl x.0 in
+    (y.0, y.1 ∙ x.1)
+
+pub signed_new : (s : Store) (st : State) (pass : ℕ) (request : Request) (b : Booking) → StoreFits s → Keeps s st → RequestFits request → b ≡ booked s.id (items_of st.life (block_of request)) st.contents request st.drawn
+    → (x : SignedRow s (with_row st request (row_item (new_row (items_of st.life (block_of request)) pass request st.drawn))).life b.leaf b.text) × (x.entry ≡ new_entry (items_of st.life (block_of request)) request)
+signed_new s st pass request b small keeps fits is =
+    let items = items_of st.life (block_of request) in
+    let k = shard_of (block_of request) in
+    let row = row_item (new_row items pass request st.drawn) in
+    let room : length (rows_of items (block_of request)) < 2 ^ 64 = omega (arith, rows_of_few items (block_of request), keeps.counted k (omega arith), keeps.drawn_within, small.leaves) in
+    let x = signed_in_new s.id k items st.contents pass request st.drawn b (keeps.honest.shards k (omega arith)).each fits room is in
+    let y = in_life s (with_row st request row).life k (items ++ row ∷ []) b.leaf b.text (omega arith) (at_same st.life k row keeps.honest.sixteen (omega arith)) x.0 in
+    (y.0, y.1 ∙ x.1)
+
+-- ---- one shard
+
+pub shard_signed : BookingsAreSigned
+unfolding shard_step
+shard_signed s k items contents pass request leaf b h fits few e = go (settled s.id s.pages s.families items contents request) refl leaf e
+  where
+    room : length (rows_of items (block_of request)) < 2 ^ 64
+    room = omega (arith, rows_of_few items (block_of request), few)
+
+    go : (o : Option Answer) → settled s.id s.pages s.families items contents request ≡ o → (leaf : Result ℕ LeavesOver) → answer_in (unless_settled o (with_leaf s.id items contents pass request leaf)) ≡ Booked b
+        → IsSignedIn s.id (items ++ added (unless_settled o (with_leaf s.id items contents pass request leaf))) b.leaf b.text
+    go None is (Ok q) e = (signed_in_new s.id k items contents pass request q b h.each fits room (sym (booked_answer _ b e))).0
+    go None is (Err over) e = absurd cc
+    go (Some a) is leaf e =
+        subst (λ (l : List Item). IsSignedIn s.id l b.leaf b.text) (sym (append-nil items))
+        (signed_in_again s.id k items contents request b h.each (settled_booked s.id s.pages s.families items contents request b (is ∙ ap (λ (x : Answer). Some x) e))).0
 
 -- ---- what it reads as
 

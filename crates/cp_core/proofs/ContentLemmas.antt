@@ -11,9 +11,8 @@ use Rattle.cp_core.proofs.CallLemmas.{latest_other, latest_push}
 use Rattle.cp_core.specs.Calls.{bytes_for, content_at, is_stale, latest_of, new_entry}
 use Rattle.cp_core.specs.Kept.{IsContentOf}
 use Rattle.cp_core.specs.Life.{RowItem, row_item}
-use Rattle.cp_core.specs.Machine.{IsWriter, content_in, with_content}
+use Rattle.cp_core.specs.Machine.{HasContent, content_in, with_content}
 use Rattle.cp_core.specs.Requests.{block_of}
-use Rattle.cp_core.specs.Store.{Store}
 use Rattle.cp_core.specs.declared.content.Content.{Content}
 use Rattle.cp_core.specs.declared.item.Item.{Item}
 use Rattle.cp_core.specs.declared.request.Request.{Request}
@@ -47,16 +46,16 @@ moved : (p q : Put) (x y : List ℕ) → p ≡ q → x ≡ y → IsContentOf q y
 moved p q x y puts contents h = subst (λ (p : Put). IsContentOf p x) (sym puts) (subst (IsContentOf q) (sym contents) h)
 
 -- the call's own block
-contents_here : (s : Store) (items : List Item) (contents : List Content) (request : Request) (row : RowItem) → entry_of row.entry ≡ Ok (new_entry items request) → is_stale items request ≡ false → IsWriter s request
+contents_here : (items : List Item) (contents : List Content) (request : Request) (row : RowItem) → entry_of row.entry ≡ Ok (new_entry items request) → is_stale items request ≡ false → HasContent request
     → IsContentOf (latest_of items (block_of request)) (content_at contents (block_of request)) → IsContentOf (latest_of (items ++ row_item row ∷ []) (block_of request)) (content_at (with_content contents (content_in request)) (block_of request))
 unfolding new_entry
-contents_here s items contents (ask.Put r signature content) row reads first writes before =
+contents_here items contents (ask.Put r signature content) row reads first brings before =
     let version : r.version ≡ (latest_of items r.block).version + 1 = eqb-true _ _ (not-false _ first) in
     moved _ (record { version = r.version; content = r.content }) _ content
     (latest_push items row (new_entry items (ask.Put r signature content)) r.block reads refl)
     (content_same contents (record { block = r.block; bytes = content }) r.block refl)
-    (record { at_first = λ none. absurd (omega (arith, none, version)); hashed = λ some. writes.1 })
-contents_here s items contents (ask.Get r) row reads first writes before =
+    (record { at_first = λ none. absurd (omega (arith, none, version)); hashed = λ some. brings })
+contents_here items contents (ask.Get r) row reads first brings before =
     moved _ (latest_of items r.block) _ (content_at contents r.block) (latest_push items row (new_entry items (ask.Get r)) r.block reads refl) refl before
 
 pub new_block : (items : List Item) (request : Request) → (new_entry items request).block ≡ block_of request
@@ -64,12 +63,12 @@ unfolding new_entry
 new_block items (ask.Put r signature content) = refl
 new_block items (ask.Get r) = refl
 
-pub contents_new : (s : Store) (items : List Item) (contents : List Content) (request : Request) (row : RowItem) (b : ℕ) → entry_of row.entry ≡ Ok (new_entry items request) → is_stale items request ≡ false → IsWriter s request
+pub contents_new : (items : List Item) (contents : List Content) (request : Request) (row : RowItem) (b : ℕ) → entry_of row.entry ≡ Ok (new_entry items request) → is_stale items request ≡ false → HasContent request
     → IsContentOf (latest_of items b) (content_at contents b) → IsContentOf (latest_of (items ++ row_item row ∷ []) b) (content_at (with_content contents (content_in request)) b)
-contents_new s items contents request row b reads first writes before =
+contents_new items contents request row b reads first brings before =
     elim (cases_eq (block_of request) b) [
       | inl same ↦ subst (λ (c : ℕ). IsContentOf (latest_of (items ++ row_item row ∷ []) c) (content_at (with_content contents (content_in request)) c)) same
-          (contents_here s items contents request row reads first writes (subst (λ (c : ℕ). IsContentOf (latest_of items c) (content_at contents c)) (sym same) before))
+          (contents_here items contents request row reads first brings (subst (λ (c : ℕ). IsContentOf (latest_of items c) (content_at contents c)) (sym same) before))
       | inr other ↦ moved _ (latest_of items b) _ (content_at contents b) (latest_other items row (new_entry items request) b reads (λ e. other (sym (new_block items request) ∙ e))) (contents_other contents request b other) before
     ]
 

@@ -25,14 +25,14 @@ row_same items r e b h same = rows_of-append items (row_item r ∷ []) b ∙ ap 
 pub row_other : (items : List Item) (r : RowItem) (e : Entry) (b : ℕ) → entry_of r.entry ≡ Ok e → (e.block ≡ b → ⊥) → rows_of (items ++ row_item r ∷ []) b ≡ rows_of items b
 row_other items r e b h other = rows_of-append items (row_item r ∷ []) b ∙ ap (λ l. rows_of items b ++ l) (rows_of_other r e [] b h other ∙ rows_of_nil b) ∙ append-nil _
 
-pub freeze_rows : (items : List Item) (n b : ℕ) → rows_of (items ++ Frozen n ∷ []) b ≡ rows_of items b
-freeze_rows items n b = rows_of-append items (Frozen n ∷ []) b ∙ ap (λ l. rows_of items b ++ l) (rows_of_freeze n [] b ∙ rows_of_nil b) ∙ append-nil _
+pub freeze_rows : (items : List Item) (n : ℕ) (next : List ℕ) (b : ℕ) → rows_of (items ++ Frozen n next ∷ []) b ≡ rows_of items b
+freeze_rows items n next b = rows_of-append items (Frozen n next ∷ []) b ∙ ap (λ l. rows_of items b ++ l) (rows_of_freeze n next [] b ∙ rows_of_nil b) ∙ append-nil _
 
 pub freezes_row : (items : List Item) (r : RowItem) → freezes (items ++ row_item r ∷ []) ≡ freezes items
 freezes_row items r = omega (arith, freezes-append items (row_item r ∷ []))
 
-pub freezes_more : (items : List Item) (n : ℕ) → freezes (items ++ Frozen n ∷ []) ≡ freezes items + 1
-freezes_more items n = freezes-append items (Frozen n ∷ [])
+pub freezes_more : (items : List Item) (n : ℕ) (next : List ℕ) → freezes (items ++ Frozen n next ∷ []) ≡ freezes items + 1
+freezes_more items n next = freezes-append items (Frozen n next ∷ [])
 
 up_to_one : (r : RowItem) (e : Entry) (n : ℕ) → entry_of r.entry ≡ Ok e → e.epoch ≤ n → filter (is_up_to_epoch n) (r ∷ []) ≡ r ∷ []
 up_to_one r e n h le = rw (h, le-leb e.epoch n le) refl
@@ -58,9 +58,9 @@ pub up_to_other : (items : List Item) (r : RowItem) (e : Entry) (b n : ℕ) → 
 unfolding up_to
 up_to_other items r e b n h other = ap (filter (is_up_to_epoch n)) (row_other items r e b h other)
 
-pub up_to_freeze : (items : List Item) (m b n : ℕ) → up_to (items ++ Frozen m ∷ []) b n ≡ up_to items b n
+pub up_to_freeze : (items : List Item) (m : ℕ) (next : List ℕ) (b n : ℕ) → up_to (items ++ Frozen m next ∷ []) b n ≡ up_to items b n
 unfolding up_to
-up_to_freeze items m b n = ap (filter (is_up_to_epoch n)) (freeze_rows items m b)
+up_to_freeze items m next b n = ap (filter (is_up_to_epoch n)) (freeze_rows items m next b)
 
 pub in_push : (items : List Item) (r : RowItem) (e : Entry) (b n : ℕ) → entry_of r.entry ≡ Ok e → e.block ≡ b → e.epoch ≡ n → in_epoch (items ++ row_item r ∷ []) b n ≡ in_epoch items b n ++ r ∷ []
 unfolding in_epoch
@@ -74,9 +74,9 @@ pub in_other : (items : List Item) (r : RowItem) (e : Entry) (b n : ℕ) → ent
 unfolding in_epoch
 in_other items r e b n h other = ap (filter (is_of_epoch n)) (row_other items r e b h other)
 
-pub in_freeze : (items : List Item) (m b n : ℕ) → in_epoch (items ++ Frozen m ∷ []) b n ≡ in_epoch items b n
+pub in_freeze : (items : List Item) (m : ℕ) (next : List ℕ) (b n : ℕ) → in_epoch (items ++ Frozen m next ∷ []) b n ≡ in_epoch items b n
 unfolding in_epoch
-in_freeze items m b n = ap (filter (is_of_epoch n)) (freeze_rows items m b)
+in_freeze items m next b n = ap (filter (is_of_epoch n)) (freeze_rows items m next b)
 
 -- ---- the rows are in the order of their epochs
 
@@ -92,13 +92,13 @@ ordered_nil : (b : ℕ) → Ordered [] b
 unfolding up_to in_epoch rows_of
 ordered_nil b = record { all = λ n le. refl; none = λ n lt. refl; parts = λ n. refl; prefix = λ n. ([], refl); nothing = refl }
 
-ordered_freeze : (items : List Item) (m b : ℕ) → Ordered items b → Ordered (items ++ Frozen m ∷ []) b
-ordered_freeze items m b o = record {
-  all = λ n le. up_to_freeze items m b n ∙ o.all n (omega (arith, le, freezes_more items m)) ∙ sym (freeze_rows items m b);
-  none = λ n lt. in_freeze items m b n ∙ o.none n (omega (arith, lt, freezes_more items m));
-  parts = λ n. up_to_freeze items m b n ∙ o.parts n ∙ rw (up_to_freeze items m b (n - 1), in_freeze items m b n) refl;
-  prefix = λ n. ((o.prefix n).0, freeze_rows items m b ∙ (o.prefix n).1 ∙ ap (λ l. l ++ (o.prefix n).0) (sym (up_to_freeze items m b n)));
-  nothing = up_to_freeze items m b 0 ∙ o.nothing;
+ordered_freeze : (items : List Item) (m : ℕ) (next : List ℕ) (b : ℕ) → Ordered items b → Ordered (items ++ Frozen m next ∷ []) b
+ordered_freeze items m next b o = record {
+  all = λ n le. up_to_freeze items m next b n ∙ o.all n (omega (arith, le, freezes_more items m next)) ∙ sym (freeze_rows items m next b);
+  none = λ n lt. in_freeze items m next b n ∙ o.none n (omega (arith, lt, freezes_more items m next));
+  parts = λ n. up_to_freeze items m next b n ∙ o.parts n ∙ rw (up_to_freeze items m next b (n - 1), in_freeze items m next b n) refl;
+  prefix = λ n. ((o.prefix n).0, freeze_rows items m next b ∙ (o.prefix n).1 ∙ ap (λ l. l ++ (o.prefix n).0) (sym (up_to_freeze items m next b n)));
+  nothing = up_to_freeze items m next b 0 ∙ o.nothing;
 }
 
 ordered_other : (items : List Item) (r : RowItem) (e : Entry) (b : ℕ) → entry_of r.entry ≡ Ok e → (e.block ≡ b → ⊥) → Ordered items b → Ordered (items ++ row_item r ∷ []) b
@@ -153,7 +153,7 @@ ordered k items b each = snoc (λ xs. Each (IsItemOf k) xs → Ordered xs b) (λ
           | inl same ↦ ordered_row xs r f.entry b h same f.epoch o
           | inr other ↦ ordered_other xs r f.entry b h other o
         ]
-    step xs (Frozen m) so_far each = ordered_freeze xs m b (so_far (each_front (IsItemOf k) xs (Frozen m ∷ []) each))
+    step xs (Frozen m next) so_far each = ordered_freeze xs m next b (so_far (each_front (IsItemOf k) xs (Frozen m next ∷ []) each))
 
 -- ---- the tips at the ends of epochs
 
@@ -207,7 +207,7 @@ up_to_stays k front back b m each le = snoc (λ xs. Each (IsItemOf k) (front ++ 
               | inl same ↦ up_to_later xs r f.entry b m h same (omega (arith, f.epoch, le))
               | inr other ↦ up_to_other xs r f.entry b m h other
             ]
-        one xs (Frozen n) le f = up_to_freeze xs n b m
+        one xs (Frozen n next) le f = up_to_freeze xs n next b m
 
 pub in_epoch-append : (xs ys : List Item) (b n : ℕ) → in_epoch (xs ++ ys) b n ≡ in_epoch xs b n ++ in_epoch ys b n
 unfolding in_epoch

@@ -21,3 +21,4 @@ pub mod CounterLemmas
 pub mod SignedLemmas
 pub mod GrowthLemmas
 pub mod AttestedLemmas
+pub mod FrozenLemmas

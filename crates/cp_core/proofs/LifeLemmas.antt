@@ -9,13 +9,14 @@ use Rattle.cp_chain.specs.Each.{Each}
 use Rattle.cp_core.proofs.CallLemmas.{NewRow, honest_call, new_reads}
 use Rattle.cp_core.proofs.ContentLemmas.{contents_new, contents_other}
 use Rattle.cp_core.proofs.EpochLemmas.{freezes_row, up_to_later, up_to_other}
+use Rattle.cp_core.proofs.ListLemmas.{text_row}
 use Rattle.cp_core.proofs.RowLemmas.{spells_reads}
 use Rattle.cp_core.specs.Calls.{content_at, latest_of, new_entry}
-use Rattle.cp_core.specs.Calls.Outcome.{New}
-use Rattle.cp_core.specs.Honest.{Honest, HonestShard, IsItemOf, IsRowOf, IsSealOf, RowAt, counted}
-use Rattle.cp_core.specs.Kept.{IsContentOf, Keeps, PhaseFits}
-use Rattle.cp_core.specs.Life.{RowItem, as_row, cut, entries, freezes, is_of_block, items_of, row_item, rows_in, rows_of, shard_of, tip_after, up_to}
-use Rattle.cp_core.specs.Machine.{IsWriter, State, after_call, appended, content_in, next_leaf, with_content}
+use Rattle.cp_core.specs.Calls.Effect.{New}
+use Rattle.cp_core.specs.Honest.{Honest, HonestShard, IsItemOf, IsRowOf, IsSealOf, ListsAgree, RowAt, counted}
+use Rattle.cp_core.specs.Kept.{Agree, HaveNext, IsContentOf, Keeps, PhaseFits}
+use Rattle.cp_core.specs.Life.{RowItem, as_row, cut, entries, freezes, is_of_block, items_of, list_text, row_item, rows_in, rows_of, shard_of, tip_after, up_to}
+use Rattle.cp_core.specs.Machine.{HasContent, State, after_call, appended, content_in, next_leaf, with_content}
 use Rattle.cp_core.specs.Requests.{RequestFits, block_of, store_of}
 use Rattle.cp_core.specs.Store.{Store, StoreFits}
 use Rattle.cp_core.specs.declared.answer.Answer.{Answer}
@@ -75,12 +76,13 @@ old_or r k item j front row len lt at =
 pub record SameBefore (r more : Chronicle) (n : ℕ) : Type 0 where
   pub cuts : (b : ℕ) → cut (items_of more b) b n ≡ cut (items_of r b) b n
   pub frozen : (k : ℕ) → k < 16 → freezes (items_at r k) ≤ freezes (items_at more k)
+  pub lists : (first : List ℕ) (k : ℕ) → k < 16 → list_text first (items_at more k) n ≡ list_text first (items_at r k) n
 
 pub seal_moved : (s : Store) (r more : Chronicle) (front : List SealItem) (x : SealItem) → SameBefore r more x.epoch → IsSealOf s r front x → IsSealOf s more front x
 seal_moved s r more front x m f = record {
   epoch = f.epoch;
   leaf = f.leaf;
-  families = f.families;
+  families = λ k lt. f.families k lt ∙ sym (m.lists s.families k lt);
   rows = f.rows;
   is_table = record { ascending = f.is_table.ascending; each = λ b. f.is_table.each b ∙ ap counted (sym (m.cuts b)) };
   table = f.table;
@@ -122,8 +124,8 @@ seals_stay s r more P same seals each = each_weaker (IsSealOf s r) (IsSealOf s m
 rows_in-push : (items : List Item) (row : RowItem) → length (rows_in (items ++ row_item row ∷ [])) ≡ length (rows_in items) + 1
 rows_in-push items row = ap length (filter_map-append as_row items (row_item row ∷ [])) ∙ length-append (rows_in items) (row ∷ [])
 
-pub rows_in-freeze : (items : List Item) (n : ℕ) → length (rows_in (items ++ Frozen n ∷ [])) ≡ length (rows_in items)
-rows_in-freeze items n = ap length (filter_map-append as_row items (Frozen n ∷ []) ∙ append-nil (rows_in items))
+pub rows_in-freeze : (items : List Item) (n : ℕ) (next : List ℕ) → length (rows_in (items ++ Frozen n next ∷ [])) ≡ length (rows_in items)
+rows_in-freeze items n next = ap length (filter_map-append as_row items (Frozen n next ∷ []) ∙ append-nil (rows_in items))
 
 length-filter : {A : Type 0} (p : A → Bool) (xs : List A) → length (filter p xs) ≤ length xs
 length-filter p [] = omega arith
@@ -144,17 +146,32 @@ leaf_is n drawn over q e = go (ltb drawn n) refl e
     go true t h = (ltb-true _ _ t, cc)
     go false t h = absurd cc
 
--- the phase's facts see the numbers of freezes alone
-phase_row : (s : Store) (r more : Chronicle) (p : Phase) (published : ℕ) → more.seals ≡ r.seals → ((k : ℕ) → k < 16 → freezes (items_at more k) ≡ freezes (items_at r k)) → PhaseFits s r p published → PhaseFits s more p published
-phase_row s r more (Running e) published seals same f = (λ k lt. omega (arith, same k lt, f.0 k lt), ap (λ (l : List SealItem). length l + 1) seals ∙ f.1, f.2)
-phase_row s r more (Half e j) published seals same f = (λ k lt. omega (arith, same k (omega (arith, lt, f.2)), f.0 k lt), λ k le lt. omega (arith, same k lt, f.1 k le lt), f.2, ap (λ (l : List SealItem). length l + 1) seals ∙ f.3, f.4, f.5)
-phase_row s r more (Full e) published seals same f = (λ k lt. omega (arith, same k lt, f.0 k lt), ap (λ (l : List SealItem). length l + 1) seals ∙ f.1, f.2, f.3)
-phase_row s r more (Sealed e) published seals same f = (λ k lt. omega (arith, same k lt, f.0 k lt), ap (λ (l : List SealItem). length l) seals ∙ f.1, f.2, f.3)
+-- the freezes and the lists of all shards are the same
+pub record SameLists (s : Store) (r more : Chronicle) : Type 0 where
+  pub freezes : (k : ℕ) → k < 16 → freezes (items_at more k) ≡ freezes (items_at r k)
+  pub lists : (n k : ℕ) → k < 16 → list_text s.families (items_at more k) n ≡ list_text s.families (items_at r k) n
 
-pub keeps_new : (s : Store) (st : State) (pass : ℕ) (request : Request) (row : RowItem) → StoreFits s → Keeps s st → store_of request ≡ s.id → RequestFits request → IsWriter s request
-    → (answer : Answer) → NewRow s.id (items_of st.life (block_of request)) st.contents pass request (next_leaf s st.drawn) answer row → Keeps s (after_call st request (New answer row)).1
-keeps_new s st pass request row small keeps names fits writes answer new =
-    record { honest = honest; phase = phase_row s r more st.phase st.published refl same_freezes keeps.phase; drawn = drawn; drawn_within = omega (arith, l.0); counted = rows_counted; contents = contents }
+next_same : (s : Store) (r more : Chronicle) (e j : ℕ) (kept : List ℕ) → SameLists s r more → j ≤ 16 → HaveNext s r e j kept → HaveNext s more e j kept
+next_same s r more e j kept same le h k lt = same.lists (e + 1) k (omega (arith, le, lt)) ∙ h k lt
+
+agree_same : (s : Store) (r more : Chronicle) (e : ℕ) → SameLists s r more → Agree s r e → Agree s more e
+agree_same s r more e same h k lt = same.lists e k lt ∙ h k lt ∙ sym (same.lists e 0 (omega arith))
+
+lists_agree_same : (s : Store) (r more : Chronicle) (n : ℕ) → SameLists s r more → ListsAgree s r n → ListsAgree s more n
+lists_agree_same s r more n same h k l k16 l16 nk nl = same.lists (n + 1) k k16 ∙ h k l k16 l16 (omega (arith, nk, same.freezes k k16)) (omega (arith, nl, same.freezes l l16)) ∙ sym (same.lists (n + 1) l l16)
+
+-- the phase's facts see the freezes alone
+phase_row : (s : Store) (r more : Chronicle) (kept : List ℕ) (p : Phase) (published : ℕ) → more.seals ≡ r.seals → SameLists s r more → PhaseFits s r kept p published → PhaseFits s more kept p published
+phase_row s r more kept (Running e) published seals same f = (λ k lt. omega (arith, same.freezes k lt, f.0 k lt), ap (λ (l : List SealItem). length l + 1) seals ∙ f.1, f.2, next_same s r more published 16 kept same (omega arith) f.3)
+phase_row s r more kept (Half e j) published seals same f =
+    (λ k lt. omega (arith, same.freezes k (omega (arith, lt, f.2)), f.0 k lt), λ k le lt. omega (arith, same.freezes k lt, f.1 k le lt), f.2, ap (λ (l : List SealItem). length l + 1) seals ∙ f.3, f.4, f.5, agree_same s r more e same f.6, next_same s r more e j kept same (omega (arith, f.2)) f.7)
+phase_row s r more kept (Full e) published seals same f = (λ k lt. omega (arith, same.freezes k lt, f.0 k lt), ap (λ (l : List SealItem). length l + 1) seals ∙ f.1, f.2, f.3, agree_same s r more e same f.4, next_same s r more e 16 kept same (omega arith) f.5)
+phase_row s r more kept (Sealed e) published seals same f = (λ k lt. omega (arith, same.freezes k lt, f.0 k lt), ap (λ (l : List SealItem). length l) seals ∙ f.1, f.2, f.3, next_same s r more e 16 kept same (omega arith) f.4)
+
+pub keeps_new : (s : Store) (st : State) (pass : ℕ) (request : Request) (row : RowItem) → StoreFits s → Keeps s st → store_of request ≡ s.id → RequestFits request → HasContent request
+    → (answer : Answer) → NewRow s.id s.families (items_of st.life (block_of request)) st.contents pass request (next_leaf s st.drawn) answer row → Keeps s (after_call st request (New answer row)).1
+keeps_new s st pass request row small keeps names fits brings answer new =
+    record { honest = honest; phase = phase_row s r more st.kept st.phase st.published refl same keeps.phase; kept = keeps.kept; drawn = drawn; drawn_within = omega (arith, l.0); counted = rows_counted; contents = contents }
   where
     r : Chronicle
     r = st.life
@@ -181,7 +198,7 @@ keeps_new s st pass request row small keeps names fits writes answer new =
     room = omega (arith, rows_of_few (items_of st.life (block_of request)) (block_of request), keeps.counted (shard_of (block_of request)) lt, keeps.drawn_within, small.leaves)
 
     here : HonestShard s (shard_of (block_of request)) (items_at st.life (shard_of (block_of request)) ++ row_item row ∷ [])
-    here = honest_call s (shard_of (block_of request)) (items_of st.life (block_of request)) pass request st.contents (next_leaf s st.drawn) answer row (h.shards (shard_of (block_of request)) lt) refl fits names writes room new
+    here = honest_call s (shard_of (block_of request)) (items_of st.life (block_of request)) pass request st.contents (next_leaf s st.drawn) answer row (h.shards (shard_of (block_of request)) lt) refl fits names room new
 
     f : IsRowOf (shard_of (block_of request)) (items_at st.life (shard_of (block_of request))) row
     f = each_last (IsItemOf (shard_of (block_of request))) (items_at st.life (shard_of (block_of request))) (row_item row) here.each
@@ -189,10 +206,17 @@ keeps_new s st pass request row small keeps names fits writes answer new =
     same_freezes : (j : ℕ) → j < 16 → freezes (items_at more j) ≡ freezes (items_at st.life j)
     same_freezes j in16 = at_each st.life (shard_of (block_of request)) (row_item row) (λ i xs. freezes xs ≡ freezes (items_at st.life i)) h.sixteen lt (λ i h. refl) (freezes_row (items_at st.life (shard_of (block_of request))) row) j in16
 
+    same : SameLists s st.life more
+    same = record {
+      freezes = same_freezes;
+      lists = λ n j in16. at_each st.life (shard_of (block_of request)) (row_item row) (λ i xs. list_text s.families xs n ≡ list_text s.families (items_at st.life i) n) h.sixteen lt (λ i ok. refl) (text_row s.families (items_at st.life (shard_of (block_of request))) row n) j in16;
+    }
+
     before : (front : List SealItem) (x : SealItem) → IsSealOf s st.life front x → SameBefore st.life more x.epoch
     before front x g = record {
       cuts = cuts_stay st.life (shard_of (block_of request)) (row_item row) x.epoch h.sixteen lt (λ b. row_stays (items_at st.life (shard_of (block_of request))) row f.entry x.epoch b (spells_reads row.entry f.entry f.spells) (omega (arith, f.epoch, g.frozen (shard_of (block_of request)) lt)));
       frozen = λ j in16. omega (arith, same_freezes j in16);
+      lists = λ first j in16. at_each st.life (shard_of (block_of request)) (row_item row) (λ i xs. list_text first xs x.epoch ≡ list_text first (items_at st.life i) x.epoch) h.sixteen lt (λ i ok. refl) (text_row first (items_at st.life (shard_of (block_of request))) row x.epoch) j in16;
     }
 
     differ : (k₁ : ℕ) (front₁ : List Item) (row₁ : RowItem) (k₂ : ℕ) (front₂ : List Item) (row₂ : RowItem) → OldOr st.life (shard_of (block_of request)) (row_item row) k₁ front₁ row₁ → OldOr st.life (shard_of (block_of request)) (row_item row) k₂ front₂ row₂ → row₁.leaf ≡ row₂.leaf → (k₁ ≡ k₂) × (front₁ ≡ front₂)
@@ -205,6 +229,7 @@ keeps_new s st pass request row small keeps names fits writes answer new =
     honest = record {
       sixteen = length-set _ _ _ ∙ h.sixteen;
       shards = at_each st.life (shard_of (block_of request)) (row_item row) (HonestShard s) h.sixteen lt h.shards here;
+      lists_agree = λ n. lists_agree_same s st.life more n same (h.lists_agree n);
       leaves_differ = λ k₁ front₁ row₁ k₂ front₂ row₂ a b e. differ k₁ front₁ row₁ k₂ front₂ row₂ (old_or st.life (shard_of (block_of request)) (row_item row) k₁ front₁ row₁ h.sixteen lt a) (old_or st.life (shard_of (block_of request)) (row_item row) k₂ front₂ row₂ h.sixteen lt b) e;
       leaves_below = λ j front x a. elim (old_or st.life (shard_of (block_of request)) (row_item row) j front x h.sixteen lt a) [ inl w ↦ h.leaves_below j front x w | inr w ↦ omega (arith, ap (λ (x : RowItem). x.leaf) (same_row _ _ w.2), leaf, l.0) ];
       seals = seals_stay s st.life more (λ x. Unit {0}) before st.life.seals h.seals;
@@ -226,7 +251,7 @@ keeps_new s st pass request row small keeps names fits writes answer new =
           | inl same ↦
               let now : items_of more b ≡ items_of st.life (block_of request) ++ row_item row ∷ [] = ap (items_at more) same ∙ at_same st.life (shard_of (block_of request)) (row_item row) h.sixteen lt in
               subst (λ (xs : List Item). IsContentOf (latest_of xs b) (content_at (with_content st.contents (content_in request)) b)) (sym now)
-              (contents_new s (items_of st.life (block_of request)) st.contents request row b reads new.not_stale writes
+              (contents_new (items_of st.life (block_of request)) st.contents request row b reads new.not_stale brings
               (subst (λ (j : ℕ). IsContentOf (latest_of (items_at st.life j) b) (content_at st.contents b)) same (keeps.contents b)))
           | inr ne ↦
               subst (λ (xs : List Item). IsContentOf (latest_of xs b) (content_at (with_content st.contents (content_in request)) b)) (sym (at_other st.life (shard_of (block_of request)) (row_item row) (shard_of b) ne))

@@ -4,11 +4,11 @@ use Rattle.std.specs.Prelude.{get_or, sum_by}
 use Rattle.std.proofs.lemmas.List.{length-map}
 use Rattle.cp_tips.specs.declared.tip.Tip.{Tip as Held}
 use Rattle.cp_tips.specs.Tips.{rows_of}
-use Rattle.cp_core.proofs.SealLemmas.{all_rows, entries_sum}
+use Rattle.cp_core.proofs.SealLemmas.{all_rows, entries_sum, honest_stands}
 use Rattle.cp_core.specs.Kept.{Keeps}
 use Rattle.cp_core.specs.Life.{entries}
 use Rattle.cp_core.specs.Machine.{State}
-use Rattle.cp_core.specs.Sealing.{closing_at, link_after, seal_at, table_at}
+use Rattle.cp_core.specs.Sealing.{closing_at, families_at, link_after, seal_at, table_at}
 use Rattle.cp_core.specs.Store.{Store, StoreFits}
 use Rattle.cp_core.specs.Tables.{HoldsTips, all_up_to}
 use Rattle.cp_core.specs.declared.chronicle.Chronicle.{Chronicle}
@@ -28,12 +28,12 @@ link_last (y ∷ (z ∷ zs)) (suc i) x e is = let f : i + 1 ≡ length (z ∷ zs
 
 -- ---- the closing and the seal, part by part
 
-pub closing_is : (s : Store) (r : Chronicle) (n : ℕ) (link families table : List ℕ) (rows entries : ℕ) → link ≡ link_after r.seals → families ≡ sha256 s.families → table ≡ sha256 (table_text (table_at r n)) → rows ≡ length (table_at r n) → entries ≡ sum_by (λ x. x.tip.count) (table_at r n)
+pub closing_is : (s : Store) (r : Chronicle) (n : ℕ) (link families table : List ℕ) (rows entries : ℕ) → link ≡ link_after r.seals → families ≡ sha256 (families_at s r n) → table ≡ sha256 (table_text (table_at r n)) → rows ≡ length (table_at r n) → entries ≡ sum_by (λ x. x.tip.count) (table_at r n)
     → (let c : Closing = record { store = s.id; epoch = n; link = link; families = families; table = table; rows = rows; entries = entries } in c) ≡ closing_at s r n
 unfolding closing_at
 closing_is s r n link families table rows entries a b c d e = rw (a, b, c, d, e) refl
 
-pub seal_is : (s : Store) (r : Chronicle) (n : ℕ) (text table families : List ℕ) → text ≡ closing_text (closing_at s r n) → table ≡ table_text (table_at r n) → families ≡ s.families
+pub seal_is : (s : Store) (r : Chronicle) (n : ℕ) (text table families : List ℕ) → text ≡ closing_text (closing_at s r n) → table ≡ table_text (table_at r n) → families ≡ families_at s r n
     → (let x : SealItem = record { epoch = n; leaf = s.attestations + (n - 1); text = text; table = table; families = families } in x) ≡ seal_at s r n
 unfolding seal_at
 seal_is s r n text table families a b c = rw (a, b, c) refl
@@ -46,4 +46,4 @@ pub rows_are : (entries : List (ℕ × Held)) (rows : List TableRow) (n : ℕ) �
 rows_are entries rows n same long = omega (arith, long, ap length same, length-map entries (λ e. (let r : TableRow = record { block = e.0; tip = tip_view e.1 } in r)))
 
 pub sum_small : (s : Store) (st : State) (n : ℕ) → Keeps s st → StoreFits s → sum_by (λ x. x.tip.count) (table_at st.life n) < 2 ^ 64
-sum_small s st n keeps small = omega (arith, entries_sum s st.life keeps.honest n, all_rows s st keeps, keeps.drawn_within, small.leaves)
+sum_small s st n keeps small = omega (arith, entries_sum st.life (honest_stands s st.life keeps.honest) n, all_rows s st keeps, keeps.drawn_within, small.leaves)

@@ -11,7 +11,7 @@ use Rattle.cp_core.specs.declared.item.Item.TheVariants.{Frozen, Row}
 
 pub any_item : (b : ℕ) (x : Item) (xs : List Item) → list_any (puts_block b) (rows_in (x ∷ xs)) ≡ (item_puts_block b x || list_any (puts_block b) (rows_in xs))
 any_item b (Row pass leaf pages entry) xs = refl
-any_item b (Frozen n) xs = refl
+any_item b (Frozen n next) xs = refl
 
 any_at : (b i : ℕ) (items : List Item) (x : Item) → x ≡ get_or items i x → i < length items → list_any (puts_block b) (rows_in (drop i items)) ≡ (item_puts_block b x || list_any (puts_block b) (rows_in (drop (i + 1) items)))
 any_at b i items x is lt = ap (λ (xs : List Item). list_any (puts_block b) (rows_in xs)) (drop_more items i x lt) ∙ any_item b (get_or items i x) (drop (i + 1) items) ∙ ap (λ (y : Item). item_puts_block b y || list_any (puts_block b) (rows_in (drop (i + 1) items))) (sym is)
@@ -27,11 +27,11 @@ any_here b i items x is lt some = any_at b i items x is lt ∙ ap (λ (t : Bool)
 -- the pages of an item that is the last put of its block among the later items
 abbrev pub pages_in : Item → List RowItem → ℕ
 pages_in (Row pass leaf pages entry) later = cond (is_last_put (record { pass = pass; leaf = leaf; pages = pages; entry = entry }) later) pages 0
-pages_in (Frozen n) later = 0
+pages_in (Frozen n next) later = 0
 
 taken_item : (x : Item) (xs : List Item) → pages_taken (rows_in (x ∷ xs)) ≡ pages_in x (rows_in xs) + pages_taken (rows_in xs)
 taken_item (Row pass leaf pages entry) xs = refl
-taken_item (Frozen n) xs = omega arith
+taken_item (Frozen n next) xs = omega arith
 
 pub taken_more : (i : ℕ) (items : List Item) (x : Item) → x ≡ get_or items i x → i < length items → pages_taken (rows_in (drop i items)) ≡ pages_in x (rows_in (drop (i + 1) items)) + pages_taken (rows_in (drop (i + 1) items))
 taken_more i items x is lt = ap (λ (xs : List Item). pages_taken (rows_in xs)) (drop_more items i x lt) ∙ taken_item (get_or items i x) (drop (i + 1) items) ∙ ap (λ (y : Item). pages_in y (rows_in (drop (i + 1) items)) + pages_taken (rows_in (drop (i + 1) items))) (sym is)

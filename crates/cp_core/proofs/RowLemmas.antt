@@ -36,9 +36,9 @@ pub rows_of_other : (r : RowItem) (e : Entry) (back : List Item) (b : ℕ) → e
 unfolding rows_of
 rows_of_other r e back b h other = rw (h, ne_eqb e.block b other) refl
 
-pub rows_of_freeze : (n : ℕ) (back : List Item) (b : ℕ) → rows_of (Frozen n ∷ back) b ≡ rows_of back b
+pub rows_of_freeze : (n : ℕ) (next : List ℕ) (back : List Item) (b : ℕ) → rows_of (Frozen n next ∷ back) b ≡ rows_of back b
 unfolding rows_of
-rows_of_freeze n back b = refl
+rows_of_freeze n next back b = refl
 
 pub rows_of_nil : (b : ℕ) → rows_of [] b ≡ []
 unfolding rows_of

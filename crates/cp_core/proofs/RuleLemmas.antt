@@ -11,7 +11,7 @@ use Rattle.cp_chain.specs.Each.{Each}
 use Rattle.cp_chain.specs.Legal.{Put}
 use Rattle.cp_core.proofs.RowLemmas.{rows_of-append, spells_reads, spells_same}
 use Rattle.cp_core.proofs.RunningLemmas.{head_now, put_now}
-use Rattle.cp_core.specs.Calls.{again_entry, attested, epoch_now, first_refused, found, is_overtaken, is_stale, latest_of, settled, text_again}
+use Rattle.cp_core.specs.Calls.{again_entry, attested, epoch_now, first_refused, found, is_overtaken, is_stale, latest_of, settled, text_again, unwritten}
 use Rattle.cp_core.specs.Honest.{IsItemOf, IsRowOf, SpellsEntry}
 use Rattle.cp_core.specs.Life.{RowItem, as_row, entries, row_item, rows_of}
 use Rattle.cp_core.specs.Requests.{block_of, epoch_of}
@@ -96,22 +96,26 @@ get_overtaken items e t b two now test = overtaken_of e.kind t e.version b two t
 
 -- ---- what is settled
 
-pub settled_first : (store : List ℕ) (pages : ℕ) (items : List Item) (contents : List Content) (request : Request) → epoch_of request ≡ epoch_now items → found items request ≡ None → settled store pages items contents request ≡ first_refused pages items request
+pub settled_first : (store : List ℕ) (pages : ℕ) (list : List ℕ) (items : List Item) (contents : List Content) (request : Request) → epoch_of request ≡ epoch_now items → unwritten list items request ≡ None → found items request ≡ None → settled store pages list items contents request ≡ first_refused pages items request
 unfolding settled
-settled_first store pages items contents request now none = rw (eq-eqb (epoch_of request) (epoch_now items) now, none) refl
+settled_first store pages list items contents request now writes none = rw (eq-eqb (epoch_of request) (epoch_now items) now, writes, none) refl
 
-pub settled_again : (store : List ℕ) (pages : ℕ) (items : List Item) (contents : List Content) (request : Request) (r : RowItem) → epoch_of request ≡ epoch_now items → found items request ≡ Some r → settled store pages items contents request ≡ Some (again_entry store items contents request r.leaf (entry_of r.entry))
+pub settled_written : (store : List ℕ) (pages : ℕ) (list : List ℕ) (items : List Item) (contents : List Content) (request : Request) (answer : Answer) → epoch_of request ≡ epoch_now items → unwritten list items request ≡ Some answer → Some answer ≡ settled store pages list items contents request
 unfolding settled
-settled_again store pages items contents request r now some = rw (eq-eqb (epoch_of request) (epoch_now items) now, some) refl
+settled_written store pages list items contents request answer now writes = rw (eq-eqb (epoch_of request) (epoch_now items) now, writes) refl
+
+pub settled_again : (store : List ℕ) (pages : ℕ) (list : List ℕ) (items : List Item) (contents : List Content) (request : Request) (r : RowItem) → epoch_of request ≡ epoch_now items → unwritten list items request ≡ None → found items request ≡ Some r → settled store pages list items contents request ≡ Some (again_entry store items contents request r.leaf (entry_of r.entry))
+unfolding settled
+settled_again store pages list items contents request r now writes some = rw (eq-eqb (epoch_of request) (epoch_now items) now, writes, some) refl
 
 row_parts : (items : List Item) (i : ℕ) (x : Item) (r : RowItem) (pass leaf pages : ℕ) (text : List ℕ) → x ≡ get_or items i x → i < length items → get_or items i (row_item r) ≡ row_item r → x ≡ Row pass leaf pages text → r ≡ record { pass = pass; leaf = leaf; pages = pages; entry = text }
 row_parts items i x r pass leaf pages text is lt at row =
     let both : Some r ≡ Some (record { pass = pass; leaf = leaf; pages = pages; entry = text }) = ap as_row (sym (same_place items i x r is lt at) ∙ row) in
     cc
 
-pub settled_at : (store : List ℕ) (pages : ℕ) (items : List Item) (contents : List Content) (request : Request) (i : ℕ) (x : Item) (pass leaf held : ℕ) (text given : List ℕ) (answer : Answer) → epoch_of request ≡ epoch_now items → IsFoundAt items request (Some i) → x ≡ get_or items i x → x ≡ Row pass leaf held text → given ≡ text
-    → answer ≡ again_entry store items contents request leaf (entry_of given) → Some answer ≡ settled store pages items contents request
-settled_at store pages items contents request i x pass leaf held text given answer now at is row same answers =
+pub settled_at : (store : List ℕ) (pages : ℕ) (list : List ℕ) (items : List Item) (contents : List Content) (request : Request) (i : ℕ) (x : Item) (pass leaf held : ℕ) (text given : List ℕ) (answer : Answer) → epoch_of request ≡ epoch_now items → unwritten list items request ≡ None → IsFoundAt items request (Some i) → x ≡ get_or items i x → x ≡ Row pass leaf held text → given ≡ text
+    → answer ≡ again_entry store items contents request leaf (entry_of given) → Some answer ≡ settled store pages list items contents request
+settled_at store pages list items contents request i x pass leaf held text given answer now writes at is row same answers =
     let parts : at.1 ≡ record { pass = pass; leaf = leaf; pages = held; entry = text } = row_parts items i x at.1 pass leaf held text is at.0 at.3 row in
     ap (λ (a : Answer). Some a) (answers ∙ ap (λ (t : List ℕ). again_entry store items contents request leaf (entry_of t)) same ∙ ap (λ (r : RowItem). again_entry store items contents request r.leaf (entry_of r.entry)) (sym parts))
-    ∙ sym (settled_again store pages items contents request at.1 now at.2)
+    ∙ sym (settled_again store pages list items contents request at.1 now writes at.2)

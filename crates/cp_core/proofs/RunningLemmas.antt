@@ -52,7 +52,7 @@ tip_push b ts t e h =
 
 pub cut_item : (xs : List Item) (x : Item) (b n : ℕ) → cut (xs ++ x ∷ []) b n ≡ tip_with_item b n (cut xs b n) x
 unfolding tip_with_item up_to rows_of
-cut_item xs (Frozen m) b n = ap (λ (rs : List RowItem). tip_after b (entries rs)) (up_to_freeze xs m b n)
+cut_item xs (Frozen m next) b n = ap (λ (rs : List RowItem). tip_after b (entries rs)) (up_to_freeze xs m next b n)
 cut_item xs (Row pass leaf pages text) b n = go (entry_of text) refl
   where
     r : RowItem
@@ -100,7 +100,7 @@ epoch_more items i d lt = ap epoch_now (take_more items i d lt) ∙ epoch_item (
 
 pub freezes_one : (x : Item) → freezes (x ∷ []) ≤ 1
 freezes_one (Row pass leaf pages entry) = omega arith
-freezes_one (Frozen n) = omega arith
+freezes_one (Frozen n next) = omega arith
 
 pub epoch_few : (items : List Item) → epoch_now items ≤ length items + 1
 epoch_few items = omega (arith, length-filter_map as_freeze items)

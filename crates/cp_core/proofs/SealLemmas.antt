@@ -16,12 +16,14 @@ use Rattle.cp_core.proofs.EpochLemmas.{count_after, freeze_rows, head_after_tip,
 use Rattle.cp_core.proofs.EventLemmas.{SealKeeps, keeps_in, runs_honest}
 use Rattle.cp_core.proofs.LifeLemmas.{SameBefore, items_at, seal_moved}
 use Rattle.cp_core.proofs.RowLemmas.{spells_reads}
+use Rattle.cp_core.proofs.ListLemmas.{all_append}
 use Rattle.cp_core.proofs.TableLemmas.{Above, Rising, few_blocks, found_row, member, member_blocks, rises, rising_blocks, row_at, table_again}
-use Rattle.cp_core.specs.Honest.{Honest, IsItemOf, IsRowOf, IsSealOf, IsTable, SpellsEntry, last_of, link_behind}
+use Rattle.cp_core.specs.Honest.{Honest, IsItemOf, IsRowOf, IsSealOf, IsTable, SpellsEntry, StandsRightly, last_of, link_behind}
+use Rattle.cp_core.specs.Laws.{SealsAreRight}
 use Rattle.cp_core.specs.Kept.{Keeps, PhaseFits}
 use Rattle.cp_core.specs.Life.{RowItem, as_row, cut, entries, is_of_block, is_up_to_epoch, items_of, row_item, rows_in, rows_of, shard_of, up_to}
 use Rattle.cp_core.specs.Machine.{Admissible, State, run, step}
-use Rattle.cp_core.specs.Sealing.{block_read, blocks_of, blocks_up_to, closing_at, insert_block, link_after, seal_at, table_at}
+use Rattle.cp_core.specs.Sealing.{block_read, blocks_of, blocks_up_to, closing_at, insert_block, families_at, link_after, seal_at, table_at}
 use Rattle.cp_core.specs.Store.{Store, StoreFits}
 use Rattle.cp_core.specs.declared.chronicle.Chronicle.{Chronicle}
 use Rattle.cp_core.specs.declared.event.Event.{Event}
@@ -43,10 +45,6 @@ use Rattle.sha2.specs.Sha256.{sha256}
 abbrev Spelled : RowItem → Type 0
 Spelled r = (e : Entry) × SpellsEntry r.entry e
 
-all_append : {A : Type 0} (P : A → Type 0) (xs ys : List A) → AllByRecursion P xs → AllByRecursion P ys → AllByRecursion P (xs ++ ys)
-all_append P [] ys a b = b
-all_append P (x ∷ xs) ys a b = (a.0, all_append P xs ys a.1 b)
-
 all_filter : {A : Type 0} (P : A → Type 0) (p : A → Bool) (xs : List A) → AllByRecursion P xs → AllByRecursion P (filter p xs)
 all_filter P p [] a = tt
 all_filter {A} P p (x ∷ xs) a = go (p x) (all_filter P p xs a.1)
@@ -63,7 +61,7 @@ spelled_rows k items each = snoc (λ xs. Each (IsItemOf k) xs → AllByRecursion
         let r : RowItem = record { pass = pass; leaf = leaf; pages = pages; entry = entry } in
         let f : IsRowOf k xs r = each_last (IsItemOf k) xs (row_item r) each in
         subst (AllByRecursion Spelled) (sym (filter_map-append as_row xs (row_item r ∷ []))) (all_append Spelled (rows_in xs) (r ∷ []) (so_far (each_front (IsItemOf k) xs (row_item r ∷ []) each)) ((f.entry, f.spells), tt))
-    step xs (Frozen m) so_far each = subst (AllByRecursion Spelled) (sym (filter_map-append as_row xs (Frozen m ∷ []))) (all_append Spelled (rows_in xs) [] (so_far (each_front (IsItemOf k) xs (Frozen m ∷ []) each)) tt)
+    step xs (Frozen m next) so_far each = subst (AllByRecursion Spelled) (sym (filter_map-append as_row xs (Frozen m next ∷ []))) (all_append Spelled (rows_in xs) [] (so_far (each_front (IsItemOf k) xs (Frozen m next ∷ []) each)) tt)
 
 -- a fact on each shard, of all rows
 all_shards : (P : RowItem → Type 0) (shards : List (List Item)) → ((k : ℕ) → k < length shards → AllByRecursion P (rows_in (get_or shards k []))) → AllByRecursion P (flat_map rows_in shards)
@@ -87,7 +85,7 @@ none_elsewhere k items b each ne = snoc (λ xs. Each (IsItemOf k) xs → rows_of
         let r : RowItem = record { pass = pass; leaf = leaf; pages = pages; entry = entry } in
         let f : IsRowOf k xs r = each_last (IsItemOf k) xs (row_item r) each in
         row_other xs r f.entry b (spells_reads r.entry f.entry f.spells) (λ same. ne (ap shard_of (sym same) ∙ f.shard)) ∙ so_far (each_front (IsItemOf k) xs (row_item r ∷ []) each)
-    step xs (Frozen m) so_far each = freeze_rows xs m b ∙ so_far (each_front (IsItemOf k) xs (Frozen m ∷ []) each)
+    step xs (Frozen m next) so_far each = freeze_rows xs m next b ∙ so_far (each_front (IsItemOf k) xs (Frozen m next ∷ []) each)
 
 only_one : (p : RowItem → Bool) (shards : List (List Item)) (j : ℕ) → ((k : ℕ) → k < length shards → (j ≡ k → ⊥) → filter p (rows_in (get_or shards k [])) ≡ []) → filter p (flat_map rows_in shards) ≡ filter p (rows_in (get_or shards j []))
 only_one p [] j h = refl
@@ -113,26 +111,26 @@ any_left p q (r ∷ rs) = go (p r) (q r) refl refl (any_left p q rs)
 
 -- ---- the rows of a block in all shards
 
-rows_everywhere : (s : Store) (r : Chronicle) → Honest s r → (b : ℕ) → filter (is_of_block b) (flat_map rows_in r.shards) ≡ rows_of (items_of r b) b
+rows_everywhere : (r : Chronicle) → StandsRightly r → (b : ℕ) → filter (is_of_block b) (flat_map rows_in r.shards) ≡ rows_of (items_of r b) b
 unfolding rows_of
-rows_everywhere s r h b = only_one (is_of_block b) r.shards (shard_of b) (λ k lt ne. none_elsewhere k (items_at r k) b (h.shards k (omega (arith, lt, h.sixteen))).each ne)
+rows_everywhere r h b = only_one (is_of_block b) r.shards (shard_of b) (λ k lt ne. none_elsewhere k (items_at r k) b (h.each k (omega (arith, lt, h.sixteen))) ne)
 
-count_everywhere : (s : Store) (r : Chronicle) → Honest s r → (b n : ℕ) → (cut (items_of r b) b n).count ≡ length (filter (is_up_to_epoch n) (filter (is_of_block b) (flat_map rows_in r.shards)))
+count_everywhere : (r : Chronicle) → StandsRightly r → (b n : ℕ) → (cut (items_of r b) b n).count ≡ length (filter (is_up_to_epoch n) (filter (is_of_block b) (flat_map rows_in r.shards)))
 unfolding up_to
-count_everywhere s r h b n = count_after b (entries (up_to (items_of r b) b n)) ∙ length-map (up_to (items_of r b) b n) (λ (x : RowItem). x.entry) ∙ ap (λ (l : List RowItem). length (filter (is_up_to_epoch n) l)) (sym (rows_everywhere s r h b))
+count_everywhere r h b n = count_after b (entries (up_to (items_of r b) b n)) ∙ length-map (up_to (items_of r b) b n) (λ (x : RowItem). x.entry) ∙ ap (λ (l : List RowItem). length (filter (is_up_to_epoch n) l)) (sym (rows_everywhere r h b))
 
 cond_not : {A : Type 0} (t : Bool) (x y : A) → cond (not t) x y ≡ cond t y x
 cond_not true x y = refl
 cond_not false x y = refl
 
-pub table_is : (s : Store) (r : Chronicle) → Honest s r → (n : ℕ) → IsTable r n (table_at r n)
+pub table_is : (r : Chronicle) → StandsRightly r → (n : ℕ) → IsTable r n (table_at r n)
 unfolding table_at
-table_is s r h n = record {
+table_is r h n = record {
   ascending = rises (λ b. cut (items_of r b) b n) (blocks_up_to r n) (rising_blocks _);
   each = λ b.
       let all : List RowItem = flat_map rows_in r.shards in
       let is_in : member b (blocks_up_to r n) ≡ not (eqb (cut (items_of r b) b n).count 0) =
-      member_blocks b (filter (is_up_to_epoch n) all) ∙ any_left (is_of_block b) (is_up_to_epoch n) all ∙ ap (λ (m : ℕ). not (eqb m 0)) (sym (count_everywhere s r h b n)) in
+      member_blocks b (filter (is_up_to_epoch n) all) ∙ any_left (is_of_block b) (is_up_to_epoch n) all ∙ ap (λ (m : ℕ). not (eqb m 0)) (sym (count_everywhere r h b n)) in
       found_row (λ c. cut (items_of r c) c n) b (blocks_up_to r n) ∙ ap (λ (t : Bool). cond t (Some (cut (items_of r b) b n)) None) is_in ∙ cond_not (eqb (cut (items_of r b) b n).count 0) _ _;
 }
 
@@ -196,13 +194,13 @@ fewer p (x ∷ xs) = go (p x) (fewer p xs)
 pub all_rows : (s : Store) (st : State) → Keeps s st → length (flat_map rows_in st.life.shards) ≤ 16 * st.drawn
 all_rows s st keeps = omega (arith, few_rows st.drawn st.life.shards (λ k lt. keeps.counted k (omega (arith, lt, keeps.honest.sixteen))), ap (λ (m : ℕ). m * st.drawn) keeps.honest.sixteen)
 
-pub entries_sum : (s : Store) (r : Chronicle) → Honest s r → (n : ℕ) → sum_by (λ x. x.tip.count) (table_at r n) ≤ length (flat_map rows_in r.shards)
+pub entries_sum : (r : Chronicle) → StandsRightly r → (n : ℕ) → sum_by (λ x. x.tip.count) (table_at r n) ≤ length (flat_map rows_in r.shards)
 unfolding table_at
-entries_sum s r h n =
+entries_sum r h n =
     let all : List RowItem = flat_map rows_in r.shards in
     let bs : List ℕ = blocks_up_to r n in
     let e = is_sum_by (total (λ (x : TableRow). x.tip.count)) (λ (x : TableRow). x.tip.count) refl (λ x xs. refl) (map (row_at (λ b. cut (items_of r b) b n)) bs) in
-    let counts : (b : ℕ) → (cut (items_of r b) b n).count ≤ length (filter (is_of_block b) all) = λ b. omega (arith, count_everywhere s r h b n, fewer (is_up_to_epoch n) (filter (is_of_block b) all)) in
+    let counts : (b : ℕ) → (cut (items_of r b) b n).count ≤ length (filter (is_of_block b) all) = λ b. omega (arith, count_everywhere r h b n, fewer (is_up_to_epoch n) (filter (is_of_block b) all)) in
     omega (arith, e, mapped bs, total_le (λ b. (cut (items_of r b) b n).count) (λ b. length (filter (is_of_block b) all)) bs counts, blocks_share bs all (rising_blocks _))
   where
     mapped : (bs : List ℕ) → total (λ (x : TableRow). x.tip.count) (map (row_at (λ b. cut (items_of r b) b n)) bs) ≡ total (λ b. (cut (items_of r b) b n).count) bs
@@ -234,31 +232,31 @@ block_fits (r ∷ rs) all = go (entry_of r.entry) (spells_reads r.entry all.0.0 
     go (Ok e) same rest = let is : e ≡ all.0.0 = cc in inserted e.block (blocks_of rs) (subst (λ (y : Entry). y.block < 2 ^ 64) (sym is) all.0.1.fits.fields.1.1.0) rest
     go (Err d) same rest = absurd cc
 
-every_row : (s : Store) (r : Chronicle) → Honest s r → AllByRecursion Spelled (flat_map rows_in r.shards)
-every_row s r h = all_shards Spelled r.shards (λ k lt. spelled_rows k (items_at r k) (h.shards k (omega (arith, lt, h.sixteen))).each)
+every_row : (r : Chronicle) → StandsRightly r → AllByRecursion Spelled (flat_map rows_in r.shards)
+every_row r h = all_shards Spelled r.shards (λ k lt. spelled_rows k (items_at r k) (h.each k (omega (arith, lt, h.sixteen))))
 
-cut_fits : (s : Store) (r : Chronicle) → Honest s r → (b n : ℕ) → PutFits (put_at (cut (items_of r b) b n))
+cut_fits : (r : Chronicle) → StandsRightly r → (b n : ℕ) → PutFits (put_at (cut (items_of r b) b n))
 unfolding up_to rows_of
-cut_fits s r h b n =
+cut_fits r h b n =
     subst PutFits (sym (put_after b (entries (up_to (items_of r b) b n))))
     (puts_fit (put_at (fresh b)) (up_to (items_of r b) b n) (record { version = lit< tt; content = refl })
-    (all_filter Spelled (is_up_to_epoch n) _ (all_filter Spelled (is_of_block b) _ (spelled_rows (shard_of b) (items_of r b) (h.shards (shard_of b) (omega arith)).each))))
+    (all_filter Spelled (is_up_to_epoch n) _ (all_filter Spelled (is_of_block b) _ (spelled_rows (shard_of b) (items_of r b) (h.each (shard_of b) (omega arith))))))
 
 pub genesis_length : (b : ℕ) → length (genesis b) ≡ 32
 unfolding genesis
 genesis_length b = length-sha256 _
 
-rows_all_fit : (s : Store) (r : Chronicle) → Honest s r → length (flat_map rows_in r.shards) < 2 ^ 64 → (n : ℕ) → AllByRecursion RowFits (table_at r n)
+rows_all_fit : (r : Chronicle) → StandsRightly r → length (flat_map rows_in r.shards) < 2 ^ 64 → (n : ℕ) → AllByRecursion RowFits (table_at r n)
 unfolding table_at
-rows_all_fit s r h few n = go (blocks_up_to r n) (block_fits _ (all_filter Spelled (is_up_to_epoch n) _ (every_row s r h)))
+rows_all_fit r h few n = go (blocks_up_to r n) (block_fits _ (all_filter Spelled (is_up_to_epoch n) _ (every_row r h)))
   where
     count_fits : (b : ℕ) → (cut (items_of r b) b n).count < 2 ^ 64
-    count_fits b = omega (arith, few, count_everywhere s r h b n, fewer (is_up_to_epoch n) (filter (is_of_block b) (flat_map rows_in r.shards)), fewer (is_of_block b) (flat_map rows_in r.shards))
+    count_fits b = omega (arith, few, count_everywhere r h b n, fewer (is_up_to_epoch n) (filter (is_of_block b) (flat_map rows_in r.shards)), fewer (is_of_block b) (flat_map rows_in r.shards))
 
     go : (bs : List ℕ) → AllByRecursion (λ b. b < 2 ^ 64) bs → AllByRecursion RowFits (map (row_at (λ b. cut (items_of r b) b n)) bs)
     go [] a = tt
     go (b ∷ bs) a =
-        let p : PutFits (put_at (cut (items_of r b) b n)) = cut_fits s r h b n in
+        let p : PutFits (put_at (cut (items_of r b) b n)) = cut_fits r h b n in
         let wide : length (cut (items_of r b) b n).head ≡ 32 = ap length (head_after_tip b (entries (up_to (items_of r b) b n))) ∙ head_after_length (genesis b) (entries (up_to (items_of r b) b n)) (genesis_length b) in
         ((a.0, (count_fits b, (p.version, (p.content, (wide, tt))))), go bs a.1)
 
@@ -273,54 +271,55 @@ link_length : (o : Option SealItem) → length (link_behind o) ≡ 32
 link_length None = refl
 link_length (Some x) = length-sha256 x.text
 
-table_length : (s : Store) (r : Chronicle) → (n : ℕ) → length (table_at r n) ≤ length (flat_map rows_in r.shards)
+table_length : (r : Chronicle) (n : ℕ) → length (table_at r n) ≤ length (flat_map rows_in r.shards)
 unfolding table_at
-table_length s r n = omega (arith, length-map (blocks_up_to r n) (row_at (λ b. cut (items_of r b) b n)), few_blocks (filter (is_up_to_epoch n) (flat_map rows_in r.shards)), fewer (is_up_to_epoch n) (flat_map rows_in r.shards))
+table_length r n = omega (arith, length-map (blocks_up_to r n) (row_at (λ b. cut (items_of r b) b n)), few_blocks (filter (is_up_to_epoch n) (flat_map rows_in r.shards)), fewer (is_up_to_epoch n) (flat_map rows_in r.shards))
 
-pub closing_made : (s : Store) (st : State) (e : ℕ) → Keeps s st → StoreFits s → 1 ≤ e → e ≤ s.closings → ClosingFits (closing_at s st.life e)
+closing_made : (s : Store) (r : Chronicle) (e : ℕ) → StandsRightly r → StoreFits s → length (flat_map rows_in r.shards) < 2 ^ 64 → 1 ≤ e → e ≤ s.closings → ClosingFits (closing_at s r e)
 unfolding closing_at
-closing_made s st e keeps small pos within =
-    let few = all_rows s st keeps in
-    let link : length (link_after st.life.seals) ≡ 32 = ap length (links_same st.life.seals) ∙ link_length (last_of st.life.seals) in
-    let rows : length (table_at st.life e) < 2 ^ 64 = omega (arith, table_length s st.life e, few, keeps.drawn_within, small.leaves) in
-    let counts : sum_by (λ x. x.tip.count) (table_at st.life e) < 2 ^ 64 = omega (arith, entries_sum s st.life keeps.honest e, few, keeps.drawn_within, small.leaves) in
-    (small.id, ((pos, omega (arith, within, small.leaves)), (link, (length-sha256 s.families, (length-sha256 _, (rows, (counts, tt)))))))
+closing_made s r e stands small few pos within =
+    let link : length (link_after r.seals) ≡ 32 = ap length (links_same r.seals) ∙ link_length (last_of r.seals) in
+    let rows : length (table_at r e) < 2 ^ 64 = omega (arith, table_length r e, few) in
+    let counts : sum_by (λ x. x.tip.count) (table_at r e) < 2 ^ 64 = omega (arith, entries_sum r stands e, few) in
+    (small.id, ((pos, omega (arith, within, small.leaves)), (link, (length-sha256 (families_at s r e), (length-sha256 _, (rows, (counts, tt)))))))
 
-new_seal : (s : Store) (st : State) (e : ℕ) → Keeps s st → StoreFits s → st.phase ≡ Full e → IsSealOf s st.life st.life.seals (seal_at s st.life e)
+pub right_seal : SealsAreRight
 unfolding seal_at closing_at
-new_seal s st e keeps small at =
-    let p : PhaseFits s st.life (Full e) st.published = subst (λ (q : Phase). PhaseFits s st.life q st.published) at keeps.phase in
-    let few : length (flat_map rows_in st.life.shards) < 2 ^ 64 = omega (arith, all_rows s st keeps, keeps.drawn_within, small.leaves) in
+right_seal s r kept e published stands small p few =
     record {
       epoch = sym p.1;
       leaf = omega (arith, p.1);
-      families = refl;
-      rows = table_at st.life e;
-      is_table = table_is s st.life keeps.honest e;
-      table = table_again (table_at st.life e) (rows_all_fit s st.life keeps.honest few e);
-      closing = closing_at s st.life e;
-      closing_is = ap (λ (l : List ℕ). record { store = s.id; epoch = e; link = l; families = sha256 s.families; table = sha256 (table_text (table_at st.life e)); rows = length (table_at st.life e); entries = sum_by (λ x. x.tip.count) (table_at st.life e) }) (links_same st.life.seals);
+      families = λ k lt. sym (p.4 k lt);
+      rows = table_at r e;
+      is_table = table_is r stands e;
+      table = table_again (table_at r e) (rows_all_fit r stands few e);
+      closing = closing_at s r e;
+      closing_is = ap (λ (l : List ℕ). record { store = s.id; epoch = e; link = l; families = sha256 (families_at s r e); table = sha256 (table_text (table_at r e)); rows = length (table_at r e); entries = sum_by (λ x. x.tip.count) (table_at r e) }) (links_same r.seals);
       text = refl;
-      fits = closing_made s st e keeps small (omega (arith, p.1)) p.2;
+      fits = closing_made s r e stands small few (omega (arith, p.1)) p.2;
       frozen = λ k lt. omega (arith, p.0 k lt);
     }
+
+pub honest_stands : (s : Store) (r : Chronicle) → Honest s r → StandsRightly r
+honest_stands s r h = record { sixteen = h.sixteen; each = λ k lt. (h.shards k lt).each }
 
 pub seal_keeps : (s : Store) → StoreFits s → SealKeeps s
 unfolding seal_at
 seal_keeps s small st e keeps at =
-    let p : PhaseFits s st.life (Full e) st.published = subst (λ (q : Phase). PhaseFits s st.life q st.published) at keeps.phase in
+    let p : PhaseFits s st.life st.kept (Full e) st.published = subst (λ (q : Phase). PhaseFits s st.life st.kept q st.published) at keeps.phase in
     let h = keeps.honest in
     let x : SealItem = seal_at s st.life e in
     let more : Chronicle = record st.life { seals = st.life.seals ++ x ∷ [] } in
-    let stays : (n : ℕ) → SameBefore st.life more n = λ n. record { cuts = λ b. refl; frozen = λ k lt. omega arith } in
+    let stays : (n : ℕ) → SameBefore st.life more n = λ n. record { cuts = λ b. refl; frozen = λ k lt. omega arith; lists = λ first k lt. refl } in
     let seals : Each (IsSealOf s more) (st.life.seals ++ x ∷ []) =
     each_push (IsSealOf s more) st.life.seals x
     (each_weaker (IsSealOf s st.life) (IsSealOf s more) (λ front y f. seal_moved s st.life more front y (stays y.epoch) f) st.life.seals h.seals)
-    (seal_moved s st.life more st.life.seals x (stays x.epoch) (new_seal s st e keeps small at)) in
+    (seal_moved s st.life more st.life.seals x (stays x.epoch) (right_seal s st.life st.kept e st.published (honest_stands s st.life h) small p (omega (arith, all_rows s st keeps, keeps.drawn_within, small.leaves)))) in
     let long : length (st.life.seals ++ x ∷ []) ≡ e = length-append st.life.seals (x ∷ []) ∙ p.1 in
     record {
-      honest = record { sixteen = h.sixteen; shards = h.shards; leaves_differ = h.leaves_differ; leaves_below = h.leaves_below; seals = seals; within = omega (arith, long, p.2) };
-      phase = (p.0, long, p.2, p.3);
+      honest = record { sixteen = h.sixteen; shards = h.shards; lists_agree = h.lists_agree; leaves_differ = h.leaves_differ; leaves_below = h.leaves_below; seals = seals; within = omega (arith, long, p.2) };
+      phase = (p.0, long, p.2, p.3, p.5);
+      kept = keeps.kept;
       drawn = keeps.drawn;
       drawn_within = keeps.drawn_within;
       counted = keeps.counted;

@@ -40,7 +40,7 @@ found_is request n [] = refl
 found_is request n (Row pass leaf pages entry ∷ xs) =
     one_row request n (record { pass = pass; leaf = leaf; pages = pages; entry = entry }) (rows_in xs)
     ∙ ap (cond (item_is_call request n (Row pass leaf pages entry)) (Some (record { pass = pass; leaf = leaf; pages = pages; entry = entry }))) (found_is request n xs)
-found_is request n (Frozen m ∷ xs) = found_is request n xs
+found_is request n (Frozen m next ∷ xs) = found_is request n xs
 
 pub found_first : (request : Request) (items : List Item) → found items request ≡ found_in request (epoch_now items) items
 unfolding found in_epoch rows_of
@@ -55,7 +55,7 @@ found_more request n i items x is lt none = sym (found_at request n i items x is
 
 call_row : (request : Request) (n : ℕ) (x : Item) → item_is_call request n x ≡ true → (r : RowItem) × (x ≡ row_item r)
 call_row request n (Row pass leaf pages entry) e = (record { pass = pass; leaf = leaf; pages = pages; entry = entry }, refl)
-call_row request n (Frozen m) e = absurd cc
+call_row request n (Frozen m next) e = absurd cc
 
 -- one that is settles it
 pub found_here : (request : Request) (n i : ℕ) (items : List Item) (x : Item) → x ≡ get_or items i x → i < length items → n ≡ epoch_now items → found_in request n (drop i items) ≡ found_in request n items → item_is_call request n x ≡ true → IsFoundAt items request (Some i)

@@ -2,15 +2,19 @@
 use Rattle.std.specs.Prelude.{ℕ, ◌+◌, ◌-◌, Bool, false, not, ◌&&◌, List, [], ◌∷◌, length, take, Option, Some, None, Result, Ok, Err, nat_lt, ◌==◌, if◌then◌else◌, bytes_eq, filter_map, cond}
 use Rattle.std.specs.List.{find, list_any}
 use Rattle.cp_bytes.specs.Hashes.{genesis, head, head_after}
-use Rattle.cp_statements.specs.PutRequest.{put_request_text}
+use Rattle.cp_statements.specs.PutRequest.{PutRequest, put_request_text}
 use Rattle.cp_statements.specs.GetRequest.{get_request_text}
 use Rattle.cp_statements.specs.Attestation.{Attestation, attestation_text}
 use Rattle.cp_statements.specs.Entry.{Entry, entry_text, entry_of}
 use Rattle.cp_tips.specs.Tip.{fresh}
-use Rattle.cp_families.specs.Writers.{request_of}
+use Rattle.lms_tree.specs.Verifying.{verifies}
+use Rattle.cp_statements.specs.View.{put_request_view}
+use Rattle.cp_families.specs.Families.{key_of}
+use Rattle.cp_families.specs.Writers.{request_of, family_of}
 use Rattle.cp_chain.specs.Legal.{Put, put_at, latest, is_call, last_or, ok_and}
 use Rattle.cp_core.specs.Booking.{Booking}
-use Rattle.cp_core.specs.Life.{RowItem, rows_in, freezes, rows_of, in_epoch, entries}
+use Rattle.cp_core.specs.Store.{list_at}
+use Rattle.cp_core.specs.Life.{RowItem, row_item, rows_in, freezes, rows_of, in_epoch, entries}
 use Rattle.cp_core.specs.Requests.{epoch_of, block_of, client_of, nonce_of, request_text, pages_of}
 use Rattle.cp_core.specs.declared.item.Item.{Item}
 use Rattle.cp_core.specs.declared.content.Content.{Content}
@@ -79,6 +83,20 @@ content_for contents kind b = if kind == 2 then content_at contents b else []
 
 -- ---- the rules in their order
 
+-- the key of the one who may write the request's block as its client, in the shard's epoch
+abbrev pub writers_key : List ℕ → List Item → PutRequest → Option (List ℕ)
+writers_key first items r = key_of (list_at first items (epoch_now items)) (family_of r.block) r.client
+
+-- there is no key, or it doesn't verify the signature on the request's text
+abbrev pub unsigned_by : PutRequest → List ℕ → Option (List ℕ) → Option Answer
+unsigned_by r signature None = Some (CallRefused (refusal.NotAWriter (family_of r.block) r.client))
+unsigned_by r signature (Some key) = if verifies key (put_request_text r) signature then None else Some (CallRefused refusal.BadSignature)
+
+-- a put that no writer of the shard's epoch signed, and why
+unfoldable pub unwritten : List ℕ → List Item → Request → Option Answer
+unwritten first items (request.Put r signature content) = unsigned_by (put_request_view r) signature (writers_key first items (put_request_view r))
+unwritten first items (request.Get r) = None
+
 -- the text of the request that an entry answers
 abbrev pub asked_text : List ℕ → Entry → List ℕ
 asked_text store e = cond (e.kind == 1) (put_request_text (request_of store e)) (get_request_text (record { store = store; epoch = e.epoch; block = e.block; client = e.client; nonce = e.nonce }))
@@ -119,11 +137,17 @@ abbrev pub at_found : List ℕ → ℕ → List Item → List Content → Reques
 at_found store pages items contents request (Some r) = Some (again_entry store items contents request r.leaf (entry_of r.entry))
 at_found store pages items contents request None = first_refused pages items request
 
--- What the rules before the leaf answer. Nothing where the call is to have a new entry.
-unfoldable pub settled : List ℕ → ℕ → List Item → List Content → Request → Option Answer
-settled store pages items contents request =
+-- the first answer, or else the second
+abbrev pub or_else : Option Answer → Option Answer → Option Answer
+or_else (Some answer) other = Some answer
+or_else None other = other
+
+-- What the rules before the leaf answer, at a shard with this first list. Nothing where the call is to
+-- have a new entry.
+unfoldable pub settled : List ℕ → ℕ → List ℕ → List Item → List Content → Request → Option Answer
+settled store pages first items contents request =
     if not (epoch_of request == epoch_now items) then Some (CallRefused (refusal.WrongEpoch (epoch_now items)))
-    else at_found store pages items contents request (found items request)
+    else or_else (unwritten first items request) (at_found store pages items contents request (found items request))
 
 -- the answer to a new call
 unfoldable pub booked : List ℕ → List Item → List Content → Request → ℕ → Booking
@@ -134,20 +158,29 @@ booked store items contents request leaf = record {
 }
 
 -- what a call leads to: an answer, and at a new call its row
-pub data Outcome : Type 0 where
-  Same : Answer → Outcome
-  New : Answer → RowItem → Outcome
+pub data Effect : Type 0 where
+  Same : Answer → Effect
+  New : Answer → RowItem → Effect
 
 -- the leaf source's answer decides on a new call
-abbrev pub with_leaf : List ℕ → List Item → List Content → ℕ → Request → Result ℕ LeavesOver → Outcome
+abbrev pub with_leaf : List ℕ → List Item → List Content → ℕ → Request → Result ℕ LeavesOver → Effect
 with_leaf store items contents pass request (Err over) = Same (CallRefused (refusal.LeavesOver over))
 with_leaf store items contents pass request (Ok leaf) = New (Booked (booked store items contents request leaf)) (new_row items pass request leaf)
 
-abbrev pub unless_settled : Option Answer → Outcome → Outcome
+abbrev pub unless_settled : Option Answer → Effect → Effect
 unless_settled (Some answer) outcome = Same answer
 unless_settled None outcome = outcome
 
--- What a call leads to at a shard of this store, with so many pages, these items and contents, and this
--- answer of its leaf source.
-unfoldable pub shard_step : List ℕ → ℕ → List Item → List Content → ℕ → Request → Result ℕ LeavesOver → Outcome
-shard_step store pages items contents pass request leaf = unless_settled (settled store pages items contents request) (with_leaf store items contents pass request leaf)
+-- What a call leads to at a shard of this store, with so many pages, this first list, these items and
+-- contents, and this answer of its leaf source.
+unfoldable pub shard_step : List ℕ → ℕ → List ℕ → List Item → List Content → ℕ → Request → Result ℕ LeavesOver → Effect
+shard_step store pages first items contents pass request leaf = unless_settled (settled store pages first items contents request) (with_leaf store items contents pass request leaf)
+
+-- its answer, and the items that it adds
+abbrev pub answer_in : Effect → Answer
+answer_in (Same answer) = answer
+answer_in (New answer row) = answer
+
+abbrev pub added : Effect → List Item
+added (Same answer) = []
+added (New answer row) = row_item row ∷ []

@@ -10,8 +10,8 @@ use Rattle.cp_tips.specs.Table.{TableRow, row_in, ascends, table_of}
 use Rattle.cp_chain.specs.Each.{Each}
 use Rattle.cp_chain.specs.Frame.{Side, Frame}
 use Rattle.cp_chain.specs.Legal.{Legal}
-use Rattle.cp_core.specs.Store.{Store, list_at}
-use Rattle.cp_core.specs.Life.{RowItem, row_item, freezes, rows_of, in_epoch, entries, cut, shard_of, items_of}
+use Rattle.cp_core.specs.Store.{Store, SpellsFamilies, list_at}
+use Rattle.cp_core.specs.Life.{RowItem, row_item, freezes, list_text, rows_of, in_epoch, entries, cut, shard_of, items_of}
 use Rattle.cp_core.specs.Calls.{attested, head_of}
 use Rattle.cp_core.specs.declared.item.Item.{Item}
 use Rattle.cp_core.specs.declared.item.Item.TheVariants.{Row, Frozen}
@@ -34,14 +34,14 @@ pub record IsRowOf (k : ℕ) (front : List Item) (r : RowItem) : Type 0 where
   pub epoch : entry.epoch ≡ freezes front + 1
   pub position : entry.position ≡ length (rows_of front entry.block)
 
--- the item does; the freezes carry 1, 2, .. in order
+-- the item does; the freezes carry 1, 2, .. in order, with lists that spell families
 abbrev pub IsItemOf : ℕ → List Item → Item → Type 0
 IsItemOf k front (Row pass leaf pages entry) = IsRowOf k front (record { pass = pass; leaf = leaf; pages = pages; entry = entry })
-IsItemOf k front (Frozen n) = n ≡ freezes front + 1
+IsItemOf k front (Frozen n next) = (n ≡ freezes front + 1) × SpellsFamilies next
 
 -- where the rows of a block in an epoch stand
 abbrev pub epoch_side : Store → List Item → ℕ → ℕ → Side
-epoch_side s items b n = record { store = s.id; families = list_at s items n; epoch = n; block = b; before = cut items b (n - 1) }
+epoch_side s items b n = record { store = s.id; families = list_at s.families items n; epoch = n; block = b; before = cut items b (n - 1) }
 
 abbrev pub epoch_frame : Store → List Item → ℕ → ℕ → Frame
 epoch_frame s items b n = record { side = epoch_side s items b n; after = cut items b n }
@@ -72,31 +72,41 @@ last_of (x ∷ []) = Some x
 last_of (x ∷ y ∷ xs) = last_of (y ∷ xs)
 
 -- The seal stands rightly behind these seals: the next epoch, which all shards have frozen, the next
--- leaf, the store's list, the table of the tips, and the closing of all of it.
+-- leaf, the epoch's list in each shard, the table of the tips, and the closing of all of it.
 pub record IsSealOf (s : Store) (r : Chronicle) (front : List SealItem) (x : SealItem) : Type 0 where
   pub epoch : x.epoch ≡ length front + 1
   pub leaf : x.leaf ≡ s.attestations + length front
-  pub families : x.families ≡ s.families
+  pub families : (k : ℕ) → k < 16 → x.families ≡ list_text s.families (get_or r.shards k []) x.epoch
   pub rows : List TableRow
   pub is_table : IsTable r x.epoch rows
   pub table : table_of x.table ≡ Ok rows
   pub closing : Closing
-  pub closing_is : closing ≡ record { store = s.id; epoch = x.epoch; link = link_behind (last_of front); families = sha256 s.families; table = sha256 x.table; rows = length rows; entries = sum_by (λ t. t.tip.count) rows }
+  pub closing_is : closing ≡ record { store = s.id; epoch = x.epoch; link = link_behind (last_of front); families = sha256 x.families; table = sha256 x.table; rows = length rows; entries = sum_by (λ t. t.tip.count) rows }
   pub text : x.text ≡ closing_text closing
   pub fits : ClosingFits closing
   pub frozen : (k : ℕ) → k < 16 → x.epoch ≤ freezes (get_or r.shards k [])
 
 -- ---- the whole
 
+-- There are sixteen shards, and each item of each stands rightly in it. The leaves of the rows may be any.
+pub record StandsRightly (r : Chronicle) : Type 0 where
+  pub sixteen : length r.shards ≡ 16
+  pub each : (k : ℕ) → k < 16 → Each (IsItemOf k) (get_or r.shards k [])
+
 -- the row lies in shard k, behind these items
 abbrev pub RowAt : Chronicle → ℕ → List Item → RowItem → Type 0
 RowAt r k front row = (k < 16) × (back : List Item) × (get_or r.shards k [] ≡ front ++ row_item row ∷ back)
 
--- Sixteen honest shards, whose rows have different leaves below the number for attestations, and at
--- most as many right seals as there are leaves for closings.
+-- all shards that froze epoch n have one list for the epoch after it
+abbrev pub ListsAgree : Store → Chronicle → ℕ → Type 0
+ListsAgree s r n = (k l : ℕ) → k < 16 → l < 16 → n ≤ freezes (get_or r.shards k []) → n ≤ freezes (get_or r.shards l []) → list_text s.families (get_or r.shards k []) (n + 1) ≡ list_text s.families (get_or r.shards l []) (n + 1)
+
+-- Sixteen honest shards with the same lists, whose rows have different leaves below the number for
+-- attestations, and at most as many right seals as there are leaves for closings.
 pub record Honest (s : Store) (r : Chronicle) : Type 0 where
   pub sixteen : length r.shards ≡ 16
   pub shards : (k : ℕ) → k < 16 → HonestShard s k (get_or r.shards k [])
+  pub lists_agree : (n : ℕ) → ListsAgree s r n
   pub leaves_differ : (k₁ : ℕ) (front₁ : List Item) (row₁ : RowItem) (k₂ : ℕ) (front₂ : List Item) (row₂ : RowItem) → RowAt r k₁ front₁ row₁ → RowAt r k₂ front₂ row₂ → row₁.leaf ≡ row₂.leaf → (k₁ ≡ k₂) × (front₁ ≡ front₂)
   pub leaves_below : (k : ℕ) (front : List Item) (row : RowItem) → RowAt r k front row → row.leaf < s.attestations
   pub seals : Each (IsSealOf s r) r.seals
@@ -114,6 +124,17 @@ pub record SignedRow (s : Store) (r : Chronicle) (leaf : ℕ) (text : List ℕ) 
   pub spells : SpellsEntry row.entry entry
   pub leaf_is : leaf ≡ row.leaf
   pub text_is : text ≡ attestation_text (attested s.id (head_of front entry.block) entry)
+
+-- The same among one shard's items: a row has the leaf, and its attestation the text.
+pub record IsSignedIn (store : List ℕ) (items : List Item) (leaf : ℕ) (text : List ℕ) : Type 0 where
+  pub front : List Item
+  pub row : RowItem
+  pub back : List Item
+  pub entry : Entry
+  pub at : items ≡ front ++ row_item row ∷ back
+  pub spells : SpellsEntry row.entry entry
+  pub leaf_is : leaf ≡ row.leaf
+  pub text_is : text ≡ attestation_text (attested store (head_of front entry.block) entry)
 
 -- a seal's leaf, and its closing's text
 pub record SignedSeal (r : Chronicle) (leaf : ℕ) (text : List ℕ) : Type 0 where

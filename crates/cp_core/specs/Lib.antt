@@ -12,5 +12,4 @@ pub mod Kept
 pub mod Laws
 pub mod Tables
 pub mod View
-pub mod Admitting
 pub mod Frozen

@@ -1,5 +1,5 @@
 -- The life of a store as plain data, and what each block's rows are in it (this project's own).
-use Rattle.std.specs.Prelude.{ℕ, ◌%◌, Bool, List, [], length, map, get_or, Option, Some, None, nat_le, ◌==◌, filter, filter_map}
+use Rattle.std.specs.Prelude.{ℕ, ◌%◌, ◌-◌, Bool, List, [], ◌∷◌, length, map, get_or, Option, Some, None, nat_le, ◌==◌, filter, filter_map}
 use Rattle.cp_bytes.specs.Hashes.{genesis, head_after}
 use Rattle.cp_statements.specs.Entry.{entry_of}
 use Rattle.cp_tips.specs.Tip.{Tip, fresh}
@@ -16,23 +16,24 @@ pub record RowItem : Type 0 where
   pub pages : ℕ
   pub entry : List ℕ
 
--- the end of an epoch
+-- the end of an epoch, with the families list of the next one
 pub record FreezeItem : Type 0 where
   pub epoch : ℕ
+  pub next : List ℕ  -- the list's text
 
 abbrev pub row_item : RowItem → Item
 row_item r = Row r.pass r.leaf r.pages r.entry
 
 abbrev pub freeze_item : FreezeItem → Item
-freeze_item f = Frozen f.epoch
+freeze_item f = Frozen f.epoch f.next
 
 abbrev pub as_row : Item → Option RowItem
 as_row (Row pass leaf pages entry) = Some (record { pass = pass; leaf = leaf; pages = pages; entry = entry })
-as_row (Frozen epoch) = None
+as_row (Frozen epoch next) = None
 
 abbrev pub as_freeze : Item → Option FreezeItem
 as_freeze (Row pass leaf pages entry) = None
-as_freeze (Frozen epoch) = Some (record { epoch = epoch })
+as_freeze (Frozen epoch next) = Some (record { epoch = epoch; next = next })
 
 abbrev pub rows_in : List Item → List RowItem
 rows_in items = filter_map as_row items
@@ -40,6 +41,15 @@ rows_in items = filter_map as_row items
 -- how many freezes there are
 abbrev pub freezes : List Item → ℕ
 freezes items = length (filter_map as_freeze items)
+
+-- the texts of the families lists of the epochs from the second on
+abbrev pub nexts : List Item → List (List ℕ)
+nexts items = map (λ f. f.next) (filter_map as_freeze items)
+
+-- The text of the families list of epoch n, from 1: the first one, or the one that the freeze of the
+-- epoch before brought.
+unfoldable pub list_text : List ℕ → List Item → ℕ → List ℕ
+list_text first items n = get_or (first ∷ nexts items) (n - 1) first
 
 abbrev pub is_of_block : ℕ → RowItem → Bool
 is_of_block b r = ok_and (entry_of r.entry) (λ e. e.block == b)

@@ -29,7 +29,7 @@ tip_with_read b n t text (Ok e) = if (e.block == b) && nat_le e.epoch n then tip
 -- with one more item of the shard: a row counts where it is of the block and of an epoch up to n
 unfoldable pub tip_with_item : ℕ → ℕ → Tip → Item → Tip
 tip_with_item b n t (Row pass leaf pages entry) = tip_with_read b n t entry (entry_of entry)
-tip_with_item b n t (Frozen e) = t
+tip_with_item b n t (Frozen e next) = t
 
 -- the tip now
 unfoldable pub tip_of : List Item → ℕ → Tip
@@ -44,12 +44,12 @@ Stands items = (k : ℕ) × Each (IsItemOf k) items
 -- it is a put of the block
 abbrev pub item_puts_block : ℕ → Item → Bool
 item_puts_block b (Row pass leaf pages entry) = ok_and (entry_of entry) (λ e. (e.kind == 1) && (e.block == b))
-item_puts_block b (Frozen e) = false
+item_puts_block b (Frozen e next) = false
 
 -- it is an entry of the request's block, client and nonce, in this epoch
 abbrev pub item_is_call : Request → ℕ → Item → Bool
 item_is_call request n (Row pass leaf pages entry) = ok_and (entry_of entry) (λ e. (e.block == block_of request) && ((e.epoch == n) && ((e.client == client_of request) && (e.nonce == nonce_of request))))
-item_is_call request n (Frozen e) = false
+item_is_call request n (Frozen e next) = false
 
 -- the row that the call made before lies at this place
 abbrev pub IsFoundAt : List Item → Request → Option ℕ → Type 0

@@ -1,12 +1,12 @@
 -- The table and the closing at an epoch's end (this project's own).
-use Rattle.std.specs.Prelude.{ℕ, ◌+◌, ◌-◌, List, [], ◌∷◌, length, map, Result, Ok, Err, nat_lt, ◌==◌, if◌then◌else◌, filter, sum_by, flat_map}
+use Rattle.std.specs.Prelude.{ℕ, ◌+◌, ◌-◌, List, [], ◌∷◌, length, map, get_or, Result, Ok, Err, nat_lt, ◌==◌, if◌then◌else◌, filter, sum_by, flat_map}
 use Rattle.sha2.specs.Sha256.{sha256}
 use Rattle.cp_bytes.specs.Hashes.{zero_hash}
 use Rattle.cp_statements.specs.Closing.{Closing, closing_text}
 use Rattle.cp_statements.specs.Entry.{Entry, entry_of}
 use Rattle.cp_tips.specs.Table.{TableRow, table_text}
 use Rattle.cp_core.specs.Store.{Store}
-use Rattle.cp_core.specs.Life.{RowItem, rows_in, is_up_to_epoch, cut, items_of}
+use Rattle.cp_core.specs.Life.{RowItem, rows_in, list_text, is_up_to_epoch, cut, items_of}
 use Rattle.cp_core.specs.declared.chronicle.Chronicle.{Chronicle}
 use Rattle.cp_core.specs.declared.seal_item.SealItem.{SealItem}
 
@@ -37,12 +37,16 @@ link_after [] = zero_hash
 link_after (x ∷ []) = sha256 x.text
 link_after (x ∷ y ∷ xs) = link_after (y ∷ xs)
 
+-- the text of the epoch's families list, which is one in all shards
+abbrev pub families_at : Store → Chronicle → ℕ → List ℕ
+families_at s r n = list_text s.families (get_or r.shards 0 []) n
+
 unfoldable pub closing_at : Store → Chronicle → ℕ → Closing
 closing_at s r n = record {
   store = s.id;
   epoch = n;
   link = link_after r.seals;
-  families = sha256 s.families;
+  families = sha256 (families_at s r n);
   table = sha256 (table_text (table_at r n));
   rows = length (table_at r n);
   entries = sum_by (λ x. x.tip.count) (table_at r n);
@@ -50,4 +54,4 @@ closing_at s r n = record {
 
 -- the seal of the epoch
 unfoldable pub seal_at : Store → Chronicle → ℕ → SealItem
-seal_at s r n = record { epoch = n; leaf = s.attestations + (n - 1); text = closing_text (closing_at s r n); table = table_text (table_at r n); families = s.families }
+seal_at s r n = record { epoch = n; leaf = s.attestations + (n - 1); text = closing_text (closing_at s r n); table = table_text (table_at r n); families = families_at s r n }

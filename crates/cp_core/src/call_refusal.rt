@@ -7,6 +7,10 @@ use crate::LeavesOver;
 pub enum CallRefusal {
     /// The request's epoch is not the shard's, which is `current`.
     WrongEpoch { current: u64 },
+    /// A put, and the shard's families list of the epoch has no row of this family and client.
+    NotAWriter { family: u32, client: u32 },
+    /// A put whose request the row's key doesn't verify.
+    BadSignature,
     /// The entry at `position` of this block and epoch has the request's client and nonce, but answers
     /// another request.
     NonceUsed { position: u64 },

@@ -3,7 +3,7 @@
 use crate::{Seals, Shards};
 
 /// The life of a store as plain data (this project's own).
-#[derive(Debug, Drop)]
+#[derive(Drop)]
 pub struct Chronicle {
     /// The items of the sixteen shards.
     pub shards: Shards,

@@ -1,9 +1,10 @@
 //! One item of a shard's life.
 
 use cp_bytes::Bytes;
+use cp_families::SharedList;
 
 /// What a shard appends to its life (this project's own).
-#[derive(Debug, Drop)]
+#[derive(Drop)]
 pub enum Item {
     /// An entry's text, with the number of the one who called, the leaf that signs its attestation and
     /// the pages of its content, which are 0 at a get.
@@ -13,6 +14,9 @@ pub enum Item {
         pages: u32,
         entry: Bytes,
     },
-    /// The end of this epoch.
-    Frozen(u64),
+    /// The end of this epoch, with the families list of the next one.
+    Frozen {
+        epoch: u64,
+        next: SharedList,
+    },
 }

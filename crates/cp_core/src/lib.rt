@@ -32,6 +32,7 @@ pub mod seals;
 mod search;
 pub mod shards;
 mod tables;
+mod writers;
 
 pub use answer::Answer;
 pub use booked::Booked;

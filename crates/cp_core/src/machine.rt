@@ -1,31 +1,33 @@
 //! The plain store's fields, and its steps one by one.
-ghost use Rattle.std.specs.Prelude.{◌≡◌, ◌<◌, ◌≤◌, ◌+◌, ◌^◌, [], length, replicate, OnOk, OnErr, IfOk};
+ghost use Rattle.std.specs.Prelude.{◌≡◌, ◌<◌, ◌≤◌, ◌+◌, ◌^◌, [], length, get_or, replicate, OnOk, OnErr, IfOk};
 ghost use Rattle.cp_core.specs.Calls.{booked, new_row, settled};
 ghost use Rattle.cp_core.specs.Kept.{Keeps};
 ghost use Rattle.cp_core.specs.Life.{items_of, row_item};
-ghost use Rattle.cp_core.specs.Machine.{Admissible, after_freeze, appended, opening, step, with_content};
+ghost use Rattle.cp_core.specs.Machine.{Admissible, after_freeze, appended, SpellsNext, opening, next_or, step, with_content};
 ghost use Rattle.cp_core.specs.Requests.{RequestFits, block_of};
-ghost use Rattle.cp_core.specs.Store.{StoreFits};
+ghost use Rattle.cp_core.specs.Store.{SpellsFamilies, StoreFits};
 ghost use Rattle.cp_core.specs.View.{state_view, store_view};
 ghost use Rattle.cp_core.specs.declared.event.Event.TheVariants.{Begin, Call, Freeze, Publish, Read, Seal};
 
 use crate::booking::{NewCall, new_call};
 use crate::rules::settled;
 use crate::sealing::seal_at;
+use crate::writers::shared;
 use crate::{
     Answer, CallRefusal, Chronicle, CloseRefusal, Content, Event, Item, Items, LeavesOver,
     OutOfMemory, Phase, Request, Seals, Shards,
 };
 use cp_bytes::Bytes;
+use cp_families::SharedList;
 use std::alloc::Global;
 
 /// The plain store: what it was made with, and how it stands.
-#[derive(Debug, Drop)]
+#[derive(Drop)]
 pub struct Machine {
     /// SHA-256 of the store's key.
     pub(crate) store: [u8; 32],
-    /// The text of its families list.
-    pub(crate) families: Bytes,
+    /// The text of its first families list, which is that of epoch 1.
+    pub(crate) families: SharedList,
     /// The number of leaves for attestations.
     pub(crate) attestations: u64,
     /// The number of leaves for closings.
@@ -40,6 +42,8 @@ pub struct Machine {
     pub(crate) phase: Phase,
     /// The number of closings that are published.
     pub(crate) published: u64,
+    /// The text of the families list that freezes bring; before a closing begins that of its epoch.
+    pub(crate) kept: SharedList,
     /// The number of leaves that are drawn for attestations.
     pub(crate) drawn: u64,
 }
@@ -83,9 +87,11 @@ impl Machine {
         closings: u64,
         pages: u32,
     ) -> Result<Machine, OutOfMemory>
-        requires { attestations + closings ≤ 2 ^ 32 }
+        requires families { SpellsFamilies families.items }
+        requires leaves { attestations + closings ≤ 2 ^ 32 }
         ensures store { IfOk result (λ machine. store_view machine ≡ record { id = store.now; families = families.items; attestations = attestations; closings = closings; pages = pages }) }
-        ensures state { IfOk result (λ machine. state_view machine ≡ opening) }
+        ensures state { IfOk result (λ machine.
+            state_view machine ≡ opening (store_view machine)) }
         ensures fits { IfOk result (λ machine. StoreFits (store_view machine)) }
     {
         let shards = empty_shards(alloc)?;
@@ -93,10 +99,12 @@ impl Machine {
             shards: Shards::from_vec(shards),
             seals: Seals::new(alloc),
         };
+        let families = shared(alloc, families)?;
+        let kept = families.share()?;
         let store = *store;
         Ok(Machine {
             store,
-            families: Bytes::from_vec(families),
+            families,
             attestations,
             closings,
             pages,
@@ -104,6 +112,7 @@ impl Machine {
             contents: Vec::new(alloc),
             phase: Phase::Running { epoch: 1 },
             published: 0,
+            kept,
             drawn: 0,
         })
     }
@@ -116,17 +125,28 @@ impl Machine {
         self.life.shards.as_slice()[(block % SHARDS) as usize].as_slice()
     }
 
+    /// The items of the first shard.
+    pub(crate) fn first_items(&self) -> &[Item]
+        requires { length self.now.life.shards ≡ 16 }
+        ensures { result.now ≡ get_or self.now.life.shards 0 [] }
+    {
+        self.life.shards.as_slice()[0].as_slice()
+    }
+
     /// What the rules before the leaf answer to a call; nothing where it is to have a new entry.
     fn settle(&self, alloc: Global, request: &Request) -> Result<Option<Answer>, OutOfMemory>
         requires keeps { Keeps (store_view self.now) (state_view self.now) }
         requires fits { RequestFits request.now }
-        ensures { IfOk result (λ answer. answer ≡ settled self.now.store self.now.pages (items_of self.now.life (block_of request.now)) self.now.contents.items request.now) }
+        ensures { let items = items_of self.now.life (block_of request.now) in
+            IfOk result (λ answer. answer ≡ settled self.now.store self.now.pages
+            self.now.families items self.now.contents.items request.now) }
     {
         let items = self.items_of(request.block());
         settled(
             alloc,
             &self.store,
             self.pages,
+            &self.families,
             items,
             self.contents.as_slice(),
             request,
@@ -172,6 +192,7 @@ impl Machine {
         ensures drawn { OnOk result (self.new.drawn ≡ self.old.drawn + 1) }
         ensures phase { OnOk result (self.new.phase ≡ self.old.phase) }
         ensures published { OnOk result (self.new.published ≡ self.old.published) }
+        ensures kept { OnOk result (self.new.kept ≡ self.old.kept) }
         ensures unchanged { OnErr result (state_view self.new ≡ state_view self.old) }
         ensures store { store_view self.new ≡ store_view self.old }
     {
@@ -214,24 +235,44 @@ impl Machine {
         Ok(Answer::Booked(booked))
     }
 
-    /// The closing of the epoch begins.
-    pub(crate) fn begin(&mut self) -> Answer
-        requires { Keeps (store_view self.old) (state_view self.old) }
-        ensures stepped { (result, state_view self.new) ≡ step (store_view self.old) (state_view self.old) Begin }
+    /// The list that a closing brings for the next epoch, where this text names one. Where none does, it
+    /// is the kept one, which is the epoch's until a closing begins.
+    fn next_list(&self, alloc: Global, next: Option<Bytes>) -> Result<SharedList, OutOfMemory>
+        requires { SpellsNext next }
+        ensures { IfOk result (λ list. list ≡ next_or next self.now.kept) }
+    {
+        match next {
+            Some(text) => shared(alloc, text.into_vec()),
+            None => self.kept.share(),
+        }
+    }
+
+    /// The closing of the epoch begins, with this text of the next epoch's families list.
+    pub(crate) fn begin(
+        &mut self,
+        alloc: Global,
+        next: Option<Bytes>,
+    ) -> Result<Answer, OutOfMemory>
+        requires keeps { Keeps (store_view self.old) (state_view self.old) }
+        requires next { SpellsNext next }
+        ensures stepped { IfOk result (λ answer. (answer, state_view self.new)
+            ≡ step (store_view self.old) (state_view self.old) (Begin next)) }
+        ensures unchanged { OnErr result (state_view self.new ≡ state_view self.old) }
         ensures store { store_view self.new ≡ store_view self.old }
     {
         let Phase::Running { epoch } = self.phase else {
-            return Answer::NotNow { phase: self.phase };
+            return Ok(Answer::NotNow { phase: self.phase });
         };
         let sealed = epoch - 1;
         if sealed == self.closings {
-            return Answer::CloseRefused(CloseRefusal::ClosingsOver {
+            return Ok(Answer::CloseRefused(CloseRefusal::ClosingsOver {
                 sealed,
                 limit: self.closings,
-            });
+            }));
         }
+        self.kept = self.next_list(alloc, next)?;
         self.phase = Phase::Half { epoch, taken: 0 };
-        Answer::Done
+        Ok(Answer::Done)
     }
 
     /// A shard ends the epoch.
@@ -248,7 +289,10 @@ impl Machine {
         if shard != taken {
             return Ok(Answer::NotNow { phase: self.phase });
         }
-        self.life.shards.push(shard as usize, Item::Frozen(epoch))?;
+        let next = self.kept.share()?;
+        self.life
+            .shards
+            .push(shard as usize, Item::Frozen { epoch, next })?;
         self.phase = after_freeze(epoch, shard);
         Ok(Answer::Done)
     }
@@ -309,7 +353,7 @@ impl Machine {
     {
         match event {
             Event::Call { pass, request } => self.call(alloc, pass, request),
-            Event::Begin => Ok(self.begin()),
+            Event::Begin { next } => self.begin(alloc, next),
             Event::Freeze { shard } => self.freeze(shard),
             Event::Seal => self.seal(alloc),
             Event::Publish => Ok(self.publish()),

@@ -1,9 +1,10 @@
 //! The plain store.
-ghost use Rattle.std.specs.Prelude.{◌≡◌, ◌+◌, ◌≤◌, ◌^◌, IsOk, IfOk, OnErr};
-ghost use Rattle.cp_families.specs.Families.{families_of};
+ghost use Rattle.std.specs.Prelude.{◌≡◌, ◌+◌, ◌≤◌, ◌^◌, IfOk, OnErr};
 ghost use Rattle.cp_core.specs.Honest.{Honest};
 ghost use Rattle.cp_core.specs.Kept.{Keeps};
-ghost use Rattle.cp_core.specs.Machine.{Admissible, opening, step};
+ghost use Rattle.cp_core.specs.Machine.{Admissible, step};
+ghost use Rattle.cp_core.specs.Store.{SpellsFamilies};
+ghost use Rattle.cp_core.specs.View.{opened};
 
 use crate::machine::Machine;
 use crate::{Answer, Chronicle, Event, OutOfMemory};
@@ -15,7 +16,7 @@ const PAGES: u32 = 65_536;
 
 /// The store as a plain machine: lists that are searched. Whatever events it has taken, in whatever
 /// order, its life is honest.
-#[derive(Debug, Drop)]
+#[derive(Drop)]
 pub struct Core {
     machine: Machine,
 }
@@ -36,9 +37,9 @@ impl Model for Core {
 impl Core {
     /// A store with 65,536 pages in each shard, before any event.
     ///
-    /// `store` is SHA-256 of its key, `families` the text of its families list, and the key has
-    /// `attestations` leaves for attestations and after them `closings` for closings, at most 2^32
-    /// together. `OutOfMemory` where its lists can't be had.
+    /// `store` is SHA-256 of its key, `families` the text of its first families list, which is that of
+    /// epoch 1, and the key has `attestations` leaves for attestations and after them `closings` for
+    /// closings, at most 2^32 together. `OutOfMemory` where its lists can't be had.
     pub fn new(
         alloc: Global,
         store: [u8; 32],
@@ -46,9 +47,15 @@ impl Core {
         attestations: u64,
         closings: u64,
     ) -> Result<Core, OutOfMemory>
-        requires families { IsOk (families_of families.items) }
+        requires families { SpellsFamilies families.items }
         requires leaves { attestations + closings ≤ 2 ^ 32 }
-        ensures { IfOk result (λ core. core ≡ record { store = record { id = store; families = families.items; attestations = attestations; closings = closings; pages = 65536 }; state = opening }) }
+        ensures { IfOk result (λ core. core ≡ opened (record {
+          id = store;
+          families = families.items;
+          attestations = attestations;
+          closings = closings;
+          pages = 65536;
+        })) }
     {
         Core::with_pages(alloc, store, families, attestations, closings, PAGES)
     }
@@ -62,9 +69,15 @@ impl Core {
         closings: u64,
         pages: u32,
     ) -> Result<Core, OutOfMemory>
-        requires families { IsOk (families_of families.items) }
+        requires families { SpellsFamilies families.items }
         requires leaves { attestations + closings ≤ 2 ^ 32 }
-        ensures { IfOk result (λ core. core ≡ record { store = record { id = store; families = families.items; attestations = attestations; closings = closings; pages = pages }; state = opening }) }
+        ensures { IfOk result (λ core. core ≡ opened (record {
+          id = store;
+          families = families.items;
+          attestations = attestations;
+          closings = closings;
+          pages = pages;
+        })) }
     {
         let machine = Machine::opened(alloc, &store, families, attestations, closings, pages)?;
         Ok(Core { machine })
@@ -72,7 +85,8 @@ impl Core {
 
     /// Takes an event: answers it and changes the state by the step's definition. Where memory is
     /// wanted, all stays as it was. The event is admissible: a call names this store, fits its fields
-    /// and, at a put, has a writer's signature; a shard is below 16, an epoch at least 1.
+    /// and, at a put, has the content of its hash; a list for the next epoch spells families, a shard is
+    /// below 16, an epoch at least 1.
     pub fn step(&mut self, alloc: Global, event: Event) -> Result<Answer, OutOfMemory>
         requires { Admissible self.old.store event }
         ensures stepped { IfOk result (λ answer. (answer, self.new.state) ≡ step self.old.store self.old.state event) }

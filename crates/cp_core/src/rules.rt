@@ -13,7 +13,9 @@ use crate::entries::{answers, attested, content_for};
 use crate::pages::{pages_free, pages_of};
 use crate::running::{epoch_now, tip_of};
 use crate::search::found;
+use crate::writers::unwritten;
 use crate::{Answer, Booked, CallRefusal, Content, Item, OutOfMemory, Request};
+use cp_families::SharedList;
 use cp_statements::{Entry, Kind};
 use std::alloc::Global;
 
@@ -135,17 +137,22 @@ pub(crate) fn settled(
     alloc: Global,
     store: &[u8; 32],
     pages: u32,
+    first: &SharedList,
     items: &[Item],
     contents: &[Content],
     request: &Request,
 ) -> Result<Option<Answer>, OutOfMemory>
     requires stands { Stands items.now }
     requires fits { RequestFits request.now }
-    ensures { IfOk result (λ answer. answer ≡ settled store.now pages items.now contents.now request.now) }
+    ensures { IfOk result (λ answer. answer
+        ≡ settled store.now pages first.now items.now contents.now request.now) }
 {
     let current = epoch_now(items);
     if request.epoch() != current {
         return Ok(Some(Answer::CallRefused(CallRefusal::WrongEpoch { current })));
+    }
+    if let Some(refusal) = unwritten(first, items, request) {
+        return Ok(Some(refusal));
     }
     let Some(at) = found(items, request, current) else {
         return Ok(first_refused(pages, items, request));
@@ -162,6 +169,6 @@ pub(crate) fn settled(
             entry.as_slice(),
         )?)),
         // No freeze is a call.
-        Item::Frozen(_) => Ok(None),
+        Item::Frozen { .. } => Ok(None),
     }
 }

@@ -71,7 +71,7 @@ fn freezes_in(item: &Item) -> u64
 {
     match item {
         Item::Row { .. } => 0,
-        Item::Frozen(_) => 1,
+        Item::Frozen { .. } => 1,
     }
 }
 

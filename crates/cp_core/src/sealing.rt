@@ -4,13 +4,14 @@ ghost use Rattle.cp_statements.specs.View.{closing_view};
 ghost use Rattle.cp_tips.specs.Table.{table_text};
 ghost use Rattle.cp_tips.specs.Tips.{rows_of};
 ghost use Rattle.cp_core.specs.Kept.{Keeps};
-ghost use Rattle.cp_core.specs.Sealing.{closing_at, link_after, seal_at, table_at};
+ghost use Rattle.cp_core.specs.Sealing.{closing_at, families_at, link_after, seal_at, table_at};
 ghost use Rattle.cp_core.specs.Store.{StoreFits};
 ghost use Rattle.cp_core.specs.View.{state_view, store_view};
 ghost use Rattle.cp_core.specs.declared.phase.Phase.TheVariants.{Full};
 
 use crate::machine::Machine;
 use crate::tables::tips_at;
+use crate::writers::list_at;
 use crate::{OutOfMemory, SealItem};
 use cp_bytes::{Bytes, digest};
 use cp_statements::Closing;
@@ -40,8 +41,15 @@ fn entries_in(tips: &BTreeMap<u64, Tip>) -> u64
     entries
 }
 
-/// The closing of the epoch, over a table of these tips with this text.
-fn closing_of(machine: &Machine, epoch: u64, tips: &BTreeMap<u64, Tip>, table: &[u8]) -> Closing
+/// The closing of the epoch, over its families list and a table of these tips with this text.
+fn closing_of(
+    machine: &Machine,
+    epoch: u64,
+    families: &[u8],
+    tips: &BTreeMap<u64, Tip>,
+    table: &[u8],
+) -> Closing
+    requires families { families.now ≡ families_at (store_view machine.now) machine.now.life epoch }
     requires tips { rows_of tips.now.entries ≡ table_at machine.now.life epoch }
     requires table { table.now ≡ table_text (table_at machine.now.life epoch) }
     requires entries { sum_by (λ row. row.tip.count) (rows_of tips.now.entries) < 2 ^ 64 }
@@ -52,7 +60,7 @@ fn closing_of(machine: &Machine, epoch: u64, tips: &BTreeMap<u64, Tip>, table: &
         store,
         epoch,
         link: link_after(machine.life.seals.as_slice()),
-        families: digest(machine.families.as_slice()),
+        families: digest(families),
         table: digest(table),
         rows: tips.len() as u64,
         entries: entries_in(tips),
@@ -68,14 +76,15 @@ pub(crate) fn seal_at(alloc: Global, machine: &Machine, epoch: u64) -> Result<Se
 {
     let tips = tips_at(alloc, machine.life.shards.as_slice(), epoch)?;
     let table = build(alloc, &tips)?;
-    let closing = closing_of(machine, epoch, &tips, &table).text();
+    let families = list_at(&machine.families, machine.first_items(), epoch).as_slice();
+    let closing = closing_of(machine, epoch, families, &tips, &table).text();
     let text = Vec::from_slice(alloc, &closing)?;
-    let families = machine.families.copy(alloc)?;
+    let families = Vec::from_slice(alloc, families)?;
     Ok(SealItem {
         epoch,
         leaf: (machine.attestations + (epoch - 1)) as u32,
         text: Bytes::from_vec(text),
         table: Bytes::from_vec(table),
-        families,
+        families: Bytes::from_vec(families),
     })
 }

@@ -6,7 +6,7 @@ use std::alloc::Global;
 use std::marker::Model;
 
 /// The items of each shard, which contracts see as a list of lists.
-#[derive(Debug, Drop)]
+#[derive(Drop)]
 pub struct Shards {
     shards: Vec<Items>,
 }

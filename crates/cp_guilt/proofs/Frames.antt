@@ -1,5 +1,5 @@
 -- The frame of evidence against an honest life: its tables are the tips at the ends of two epochs.
-use Rattle.std.proofs.Common.{◌≡◌, ℕ, ◌-◌, ◌<◌, ◌≤◌, Bool, true, false, cond, not, ◌&&◌, eqb, ltb, leb, List, [], ◌∷◌, ◌++◌, length, Option, Some, None, Ok, inl, inr, refl, sym, ap, ◌∙◌, arith}
+use Rattle.std.proofs.Common.{◌≡◌, ℕ, ◌-◌, ◌<◌, ◌≤◌, Bool, true, false, cond, not, ◌&&◌, eqb, ltb, leb, List, [], ◌∷◌, ◌++◌, length, get_or, Option, Some, None, Ok, inl, inr, refl, sym, ap, ◌∙◌, arith}
 use Rattle.std.specs.List.{list_all}
 use Rattle.std.proofs.lemmas.Bool.{and_parts, and_from, or_cases, eqb-true, eqb-false, eq-eqb, ne_eqb, ltb-true, le-leb, false≢true}
 use Rattle.std.proofs.lemmas.List.{append-nil, length-map, nil_from_length}
@@ -14,7 +14,7 @@ use Rattle.cp_tips.specs.Tip.{Tip, fresh, same_tip}
 use Rattle.cp_tips.specs.Table.{TableRow, row_in, tip_or_fresh, row, table_of, all_above, ascends, well_formed, regressed_from, regressed}
 use Rattle.cp_chain.specs.Legal.{latest}
 use Rattle.cp_core.specs.Store.{Store}
-use Rattle.cp_core.specs.Life.{RowItem, in_epoch, up_to, entries, tip_after, cut, shard_of, items_of}
+use Rattle.cp_core.specs.Life.{RowItem, in_epoch, up_to, entries, list_text, tip_after, cut, shard_of, items_of}
 use Rattle.cp_core.specs.Honest.{Honest, IsSealOf, Signed, Hashed, counted}
 use Rattle.cp_core.specs.declared.seal_item.SealItem.{SealItem}
 use Rattle.cp_core.specs.declared.chronicle.Chronicle.{Chronicle}
@@ -76,7 +76,7 @@ pub honest_table : (s : Store) (r : Chronicle) → Honest s r → length s.id �
 honest_table s r h id P apart hashed x c bytes signed reads given e =
     signed_table s r h id x c bytes signed reads (λ front y back at epoch named. apart bytes y.table given (hashed y.table (hashed_seal r front y back at).1) (e ∙ named))
 
-table_epoch : (s : Store) (r : Chronicle) (c : Closing) (bytes : List ℕ) (t : HonestTable s r c bytes) → c.epoch ≡ t.seal.epoch
+pub table_epoch : (s : Store) (r : Chronicle) (c : Closing) (bytes : List ℕ) (t : HonestTable s r c bytes) → c.epoch ≡ t.seal.epoch
 table_epoch s r c bytes t = ap (λ (z : Closing). z.epoch) (t.closing ∙ t.fits.closing_is)
 
 pub table_reads : (s : Store) (r : Chronicle) (c : Closing) (bytes : List ℕ) (t : HonestTable s r c bytes) → table_of bytes ≡ Ok t.fits.rows
@@ -94,12 +94,12 @@ table_rows s r c bytes t rows reads b =
 pub record HonestFrame (s : Store) (r : Chronicle) (w : Framed) : Type 0 where
   pub now : (b : ℕ) → row_in w.rows b ≡ counted (cut (items_of r b) b w.closing.epoch)
   pub old : (b : ℕ) → row_in w.rows_before b ≡ counted (cut (items_of r b) b (w.closing.epoch - 1))
-  pub families : w.closing.families ≡ sha256 s.families
   pub seal : SealItem
   pub front : List SealItem
   pub back : List SealItem
   pub at : r.seals ≡ front ++ seal ∷ back
-  pub seal_families : seal.families ≡ s.families
+  pub families : w.closing.families ≡ sha256 seal.families
+  pub lists : (k : ℕ) → k < 16 → seal.families ≡ list_text s.families (get_or r.shards k []) w.closing.epoch
 
 -- the table before, in epoch 1 and later
 old_rows : (s : Store) (r : Chronicle) (key : List ℕ) → Honest s r → length s.id ≡ 32 → (P : List ℕ → Type 0) → CollisionFree P → ((t : List ℕ) → Hashed r t → P t) → (g : Given) (w : Framed) → ShowsFramed key g w
@@ -128,12 +128,12 @@ honest_frame s r key h id P apart hashed g w e x_in y_in pt ps =
     record {
       now = table_rows s r w.closing g.table t w.rows v.rows_is;
       old = old_rows s r key h id P apart hashed g w v y_in ps;
-      families = ap (λ (z : Closing). z.families) (t.closing ∙ t.fits.closing_is);
       seal = t.seal;
       front = t.front;
       back = t.back;
       at = t.at;
-      seal_families = t.fits.families;
+      families = ap (λ (z : Closing). z.families) (t.closing ∙ t.fits.closing_is);
+      lists = λ k lt. t.fits.families k lt ∙ ap (λ (n : ℕ). list_text s.families (get_or r.shards k []) n) (sym (table_epoch s r w.closing g.table t));
     }
 
 -- ---- rows that are tips

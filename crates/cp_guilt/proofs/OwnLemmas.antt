@@ -18,11 +18,10 @@ use Rattle.cp_chain.specs.Standing.{stands}
 use Rattle.cp_chain.proofs.Found.{first_found}
 use Rattle.cp_chain.proofs.Firsts.{first_fault_least}
 use Rattle.cp_core.specs.Store.{Store, list_at}
-use Rattle.cp_core.specs.Life.{in_epoch, entries, cut, items_of}
+use Rattle.cp_core.specs.Life.{in_epoch, list_text, entries, cut, shard_of, items_of}
 use Rattle.cp_core.specs.Honest.{Honest, epoch_frame, Signed, counted}
 use Rattle.cp_core.specs.declared.seal_item.SealItem.{SealItem}
 use Rattle.cp_core.specs.declared.chronicle.Chronicle.{Chronicle}
-use Rattle.cp_core.proofs.ListLemmas.{list_is}
 use Rattle.cp_evidence.specs.Evidence.{Evidence}
 use Rattle.cp_evidence.specs.Evidence.Evidence.{K1, K2, K3, K4, K5, K6, K7, K8, K9, K10}
 use Rattle.cp_evidence.specs.Conditions.{signed_by, attestation_by, is_statement, is_table_before, tried}
@@ -38,10 +37,10 @@ use Rattle.cp_evidence.proofs.CleanLemmas.{grown, none_is_clean}
 use Rattle.cp_evidence.proofs.AuditLemmas.{sources}
 use Rattle.cp_guilt.specs.Framing.{WasSigned, HolderSigned}
 use Rattle.cp_guilt.specs.HonestAudit.{HolderSignedAll}
-use Rattle.cp_guilt.specs.OwnAudit.{IsTableOf, IsOwnPart, OwnTexts, OwnIsClean}
+use Rattle.cp_guilt.specs.OwnAudit.{IsListOf, IsTableOf, IsOwnPart, OwnTexts, OwnIsClean}
 use Rattle.cp_guilt.proofs.Envelopes.{not_k1, not_k2, not_k3, not_k5, not_k9, not_k10}
-use Rattle.cp_guilt.proofs.Frames.{nothing_counted, HonestTable, signed_table, table_reads, table_rows, table_formed, row_is_tip, never_back}
-use Rattle.cp_guilt.proofs.SegmentsOfLife.{frames_same, writers_are, own_unbroken, StandsThere, own_stands}
+use Rattle.cp_guilt.proofs.Frames.{nothing_counted, HonestTable, signed_table, table_epoch, table_reads, table_rows, table_formed, row_is_tip, never_back}
+use Rattle.cp_guilt.proofs.SegmentsOfLife.{frames_same, rows_listed, own_unbroken, StandsThere, own_stands}
 use Rattle.cp_guilt.proofs.HonestLemmas.{nothing_verifies}
 
 -- ---- the evidence that shows envelopes alone
@@ -100,6 +99,12 @@ table_at r n bytes all front x back at epoch =
     let P : SealItem → Type 0 = λ (y : SealItem). y.epoch ≡ n → bytes ≡ y.table in
     (all_parts P front (x ∷ back) (subst (λ (l : List SealItem). AllByRecursion P l) at all)).1.0 epoch
 
+-- the list of a seal of the epoch
+list_at_seal : (r : Chronicle) (n : ℕ) (bytes : List ℕ) → IsListOf r n bytes → (front : List SealItem) (x : SealItem) (back : List SealItem) → r.seals ≡ front ++ x ∷ back → x.epoch ≡ n → bytes ≡ x.families
+list_at_seal r n bytes all front x back at epoch =
+    let P : SealItem → Type 0 = λ (y : SealItem). y.epoch ≡ n → bytes ≡ y.families in
+    (all_parts P front (x ∷ back) (subst (λ (l : List SealItem). AllByRecursion P l) at all)).1.0 epoch
+
 own_table : (s : Store) (r : Chronicle) → Honest s r → length s.id ≡ 32 → (x : Envelope) (c : Closing) (n : ℕ) (bytes : List ℕ) → Signed s r (leaf_of x.signature) x.text → closing_of x.text ≡ Ok c → c.epoch ≡ n → IsTableOf r n bytes → HonestTable s r c bytes
 own_table s r h id x c n bytes signed reads epoch own = signed_table s r h id x c bytes signed reads (λ front y back at same named. table_at r n bytes own front y back at (sym same ∙ epoch))
 
@@ -112,7 +117,7 @@ own_rows s r c n bytes t epoch b =
     ap (λ (v : List TableRow). row_in v b) rows ∙ table_rows s r c bytes t t.fits.rows (table_reads s r c bytes t) b ∙ ap (λ (k : ℕ). counted (cut (items_of r b) b k)) epoch
 
 -- the frame of a block's rows in the epoch
-own_frame : (s : Store) (r : Chronicle) (o : GivenEpoch) (b : ℕ) → s.id ≡ sha256 o.key → o.families ≡ list_at s (items_of r b) o.epoch → row (old_rows o) b ≡ cut (items_of r b) b (o.epoch - 1) → row (new_rows o) b ≡ cut (items_of r b) b o.epoch → frame_for o b ≡ epoch_frame s (items_of r b) b o.epoch
+own_frame : (s : Store) (r : Chronicle) (o : GivenEpoch) (b : ℕ) → s.id ≡ sha256 o.key → o.families ≡ list_at s.families (items_of r b) o.epoch → row (old_rows o) b ≡ cut (items_of r b) b (o.epoch - 1) → row (new_rows o) b ≡ cut (items_of r b) b o.epoch → frame_for o b ≡ epoch_frame s (items_of r b) b o.epoch
 own_frame s r o b id families before after = frames_same s r (sha256 o.key) o.families b o.epoch (row (old_rows o) b) (row (new_rows o) b) (sym id) families before after
 
 module _ (s : Store) (r : Chronicle) (o : GivenEpoch) (vs : List Envelope) (g : OwnGiven s r o vs) where
@@ -160,8 +165,15 @@ module _ (s : Store) (r : Chronicle) (o : GivenEpoch) (vs : List Envelope) (g : 
   tip_before : (b : ℕ) → row (old_rows o) b ≡ cut (items_of r b) b (o.epoch - 1)
   tip_before b = ap (tip_or_fresh b) (before_all.1 b) ∙ row_is_tip b _
 
+  -- the given list is that of the epoch in the block's shard
+  own_list : (b : ℕ) → o.families_text ≡ list_text s.families (items_of r b) o.epoch
+  own_list b =
+      let t = table_now in
+      let epoch : t.seal.epoch ≡ o.epoch = sym (table_epoch s r o.closing.closing o.table t) ∙ closing_epoch in
+      list_at_seal r o.epoch o.families_text g.own.families t.front t.seal t.back t.at epoch ∙ t.fits.families (shard_of b) (omega arith) ∙ ap (list_text s.families (items_of r b)) epoch
+
   frame_all : (b : ℕ) → frame_for o b ≡ epoch_frame s (items_of r b) b o.epoch
-  frame_all b = own_frame s r o b g.own_id (writers_are s o.families_text o.families g.facts.families_is g.own.families ∙ sym (list_is s (items_of r b) o.epoch)) (tip_before b) (tip_now b)
+  frame_all b = own_frame s r o b g.own_id (rows_listed s (items_of r b) o.epoch o.families_text o.families g.facts.families_is (own_list b)) (tip_before b) (tip_now b)
 
   -- ---- kind by kind
 

@@ -1,5 +1,5 @@
 -- The material of an honest life is given.
-use Rattle.std.proofs.Common.{◌≡◌, ℕ, ◌+◌, ◌-◌, Bool, true, false, cond, not, eqb, List, [], ◌∷◌, ◌++◌, length, map, Option, Some, None, Result, Ok, Err, inr, refl, sym, ap, subst, ◌∙◌, arith, append_assoc, length-append}
+use Rattle.std.proofs.Common.{◌≡◌, ℕ, ◌+◌, ◌-◌, Bool, true, false, cond, not, eqb, List, [], ◌∷◌, ◌++◌, length, map, get_or, Option, Some, None, Result, Ok, Err, inr, refl, sym, ap, subst, ◌∙◌, arith, append_assoc, length-append}
 use Rattle.std.specs.Prelude.{bytes_eq, IsOk}
 use Rattle.std.specs.Result.{result_ok, result_unwrap_or}
 use Rattle.std.specs.List.{AllByRecursion}
@@ -15,18 +15,19 @@ use Rattle.cp_chain.specs.Frame.{Frame}
 use Rattle.cp_chain.specs.Log.{LogPart, Log, log_of}
 use Rattle.cp_chain.specs.Standing.{reaches}
 use Rattle.cp_chain.proofs.Each.{same_split}
-use Rattle.cp_core.specs.Store.{Store}
-use Rattle.cp_core.specs.Life.{cut, items_of}
+use Rattle.cp_core.specs.Store.{SpellsFamilies, Store}
+use Rattle.cp_core.specs.Life.{cut, list_text, items_of}
 use Rattle.cp_core.specs.Honest.{Honest, IsSealOf, counted, last_of}
 use Rattle.cp_core.specs.declared.seal_item.SealItem.{SealItem}
 use Rattle.cp_core.specs.declared.chronicle.Chronicle.{Chronicle}
+use Rattle.cp_core.proofs.ListLemmas.{list_spells}
 use Rattle.cp_core.proofs.EpochLemmas.{count_law, head_law}
 use Rattle.cp_evidence.specs.Conditions.{signed_by, is_table_before}
 use Rattle.cp_evidence.specs.Material.{Material, SignedClosing, GivenEpoch, closing_in, closing_before_in, before_in, rows_in_table, blocks_in, least_of, rose, part_of, frame_between, part_reaches, log_fault, log_given, log_is_read, parts_or_none, list_of, given_of}
 use Rattle.cp_evidence.proofs.Searches.{all_always, all_append, all_map, mapped_all, pass_none}
 use Rattle.cp_evidence.proofs.GivenFacts.{empty_rows, CameFrom, Facts, reads_log, given_all}
 use Rattle.cp_guilt.specs.Framing.{WasSigned}
-use Rattle.cp_guilt.specs.OwnAudit.{IsTableOf, own_segment, IsOwnPart, IsEnvelopeOf, IsOwnBefore, where_any, OwnMaterial, OwnIsGiven}
+use Rattle.cp_guilt.specs.OwnAudit.{IsListOf, IsTableOf, own_segment, IsOwnPart, IsEnvelopeOf, IsOwnBefore, where_any, OwnMaterial, OwnIsGiven}
 use Rattle.cp_guilt.proofs.Frames.{ordered_in, nothing_counted, row_is_tip}
 use Rattle.cp_guilt.proofs.SignedTexts.{seal_reads}
 
@@ -98,6 +99,16 @@ module _ (s : Store) (r : Chronicle) (m : Material) (own_id : s.id ≡ sha256 m.
           let there = (h.seals front₂ y back₂ at₂).epoch in
           let split = same_split front x back front₂ y back₂ (sym at ∙ at₂) (omega (arith, here, there, epochs)) in
           ap (λ (z : SealItem). z.table) split.1
+
+  -- and its list that of each seal of its epoch
+  list_at_seal : (front : List SealItem) (x : SealItem) (back : List SealItem) → r.seals ≡ front ++ x ∷ back → IsListOf r x.epoch x.families
+  list_at_seal front x back at = each_all (λ (y : SealItem). y.epoch ≡ x.epoch → x.families ≡ y.families) r.seals same
+    where
+      same : (front₂ : List SealItem) (y : SealItem) (back₂ : List SealItem) → r.seals ≡ front₂ ++ y ∷ back₂ → y.epoch ≡ x.epoch → x.families ≡ y.families
+      same front₂ y back₂ at₂ epochs =
+          let here = h.seals front x back at in
+          let there = h.seals front₂ y back₂ at₂ in
+          here.families 0 (omega arith) ∙ ap (list_text s.families (get_or r.shards 0 [])) (sym epochs) ∙ sym (there.families 0 (omega arith))
 
   -- its rows are the tips at the end of its epoch
   rows_at : (front : List SealItem) (x : SealItem) (back : List SealItem) → r.seals ≡ front ++ x ∷ back → (b : ℕ) → row_in (rows_in_table x.table) b ≡ counted (cut (items_of r b) b x.epoch)
@@ -225,7 +236,11 @@ module _ (s : Store) (r : Chronicle) (m : Material) (own_id : s.id ≡ sha256 m.
       let closing_is : closing_in m.key 0 m.epoch m.closing ≡ Some closing = closing_at w.front w.seal seal_is m.closing w.closing 0 (omega (arith, w.epoch)) in
       rw (list, before.given, closing_is, list_named, before.digest, table_named, is) refl
 
-  list_read : (list : Result (List FamilyRow) ℕ) → families_of s.families ≡ list → IsOk list → (families : List FamilyRow) × (families_of m.families ≡ Ok families)
+  -- the seal's list reads, as all lists of the life do
+  seal_spells : SpellsFamilies w.seal.families
+  seal_spells = subst SpellsFamilies (sym (seal_is.families 0 (omega arith))) (list_spells 0 s.families (get_or r.shards 0 []) (h.shards 0 (omega arith)).each w.list_reads w.seal.epoch)
+
+  list_read : (list : Result (List FamilyRow) ℕ) → families_of w.seal.families ≡ list → IsOk list → (families : List FamilyRow) × (families_of m.families ≡ Ok families)
   list_read (Ok families) is ok = (families, ap families_of w.families ∙ is)
   list_read (Err at) is ok = absurd (false≢true ok)
 
@@ -261,14 +276,14 @@ module _ (s : Store) (r : Chronicle) (m : Material) (own_id : s.id ≡ sha256 m.
 
 pub own_given : OwnIsGiven
 own_given s r m id honest w =
-    let list = list_read s r m id honest w (families_of s.families) refl w.list_reads in
+    let list = list_read s r m id honest w (families_of w.seal.families) refl (seal_spells s r m id honest w) in
     let b = before s r m id honest w in
     let log = log_where s r m id honest w list.0 (log_is_read m (before_in b.before) (closing s r m id honest w).closing) in
     let given = given_by s r m id honest w list.0 list.1 log.0 log.1 in (
       _,
       given,
       record {
-        families = w.families;
+        families = subst (λ (n : ℕ). IsListOf r n m.families) (sym w.epoch) (subst (IsListOf r w.seal.epoch) (sym w.families) (list_at_seal s r m id honest w w.front w.seal w.back w.at));
         table = subst (λ (n : ℕ). IsTableOf r n m.table) (sym w.epoch) (subst (IsTableOf r w.seal.epoch) (sym w.table) (table_at s r m id honest w w.front w.seal w.back w.at));
         table_before = b.table;
         log = own_parts s r m id honest w _ given;

@@ -23,14 +23,13 @@ use Rattle.cp_chain.specs.Rules.{broken, text_at, Found}
 use Rattle.cp_chain.specs.Standing.{reaches, says_the_same, stands}
 use Rattle.cp_chain.proofs.Each.{each_front}
 use Rattle.cp_chain.proofs.Chain.{same_segments, head_after-append, chain_texts-append, legal_unbroken}
-use Rattle.cp_core.specs.Store.{Store, list_at, writers, or_nil}
-use Rattle.cp_core.specs.Life.{RowItem, row_item, freezes, rows_of, in_epoch, up_to, entries, tip_after, cut, shard_of, items_of}
+use Rattle.cp_core.specs.Store.{Store, list_at, or_nil}
+use Rattle.cp_core.specs.Life.{RowItem, row_item, freezes, rows_of, in_epoch, up_to, list_text, entries, tip_after, cut, shard_of, items_of}
 use Rattle.cp_core.specs.Calls.{attested, head_of}
 use Rattle.cp_core.specs.Honest.{Honest, IsItemOf, epoch_frame, SignedRow, Signed, Hashed}
 use Rattle.cp_core.specs.declared.item.Item.{Item}
 use Rattle.cp_core.specs.declared.chronicle.Chronicle.{Chronicle}
 use Rattle.cp_core.proofs.RowLemmas.{spells_reads}
-use Rattle.cp_core.proofs.ListLemmas.{list_is}
 use Rattle.cp_core.proofs.EpochLemmas.{Ordered, ordered, count_law, head_law, count_after, head_after_tip, up_to_stays, in_epoch-append}
 use Rattle.cp_evidence.specs.Evidence.{Given, BrokenRule, Lost}
 use Rattle.cp_evidence.specs.Evidence.Evidence.{K7, K8}
@@ -91,15 +90,15 @@ honest_segment s r h P apart hashed b n f ts before after given e =
 abbrev pub frame_at : List ℕ → List FamilyRow → ℕ → ℕ → Tip → Tip → Frame
 frame_at store families n b before after = record { side = record { store = store; families = families; epoch = n; block = b; before = before }; after = after }
 
-pub frames_same : (s : Store) (r : Chronicle) (store : List ℕ) (families : List FamilyRow) (b n : ℕ) (before after : Tip) → store ≡ s.id → families ≡ list_at s (items_of r b) n → before ≡ cut (items_of r b) b (n - 1) → after ≡ cut (items_of r b) b n
+pub frames_same : (s : Store) (r : Chronicle) (store : List ℕ) (families : List FamilyRow) (b n : ℕ) (before after : Tip) → store ≡ s.id → families ≡ list_at s.families (items_of r b) n → before ≡ cut (items_of r b) b (n - 1) → after ≡ cut (items_of r b) b n
     → frame_at store families n b before after ≡ epoch_frame s (items_of r b) b n
 frames_same s r store families b n before after p q u v =
-    ap (λ (x : List ℕ). frame_at x families n b before after) p ∙ ap (λ (x : List FamilyRow). frame_at s.id x n b before after) q ∙ ap (λ (x : Tip). frame_at s.id (list_at s (items_of r b) n) n b x after) u ∙ ap (frame_at s.id (list_at s (items_of r b) n) n b (cut (items_of r b) b (n - 1))) v
+    ap (λ (x : List ℕ). frame_at x families n b before after) p ∙ ap (λ (x : List FamilyRow). frame_at s.id x n b before after) q ∙ ap (λ (x : Tip). frame_at s.id (list_at s.families (items_of r b) n) n b x after) u ∙ ap (frame_at s.id (list_at s.families (items_of r b) n) n b (cut (items_of r b) b (n - 1))) v
 
--- the rows of the store's list
-pub writers_are : (s : Store) (text : List ℕ) (rows : List FamilyRow) → families_of text ≡ Ok rows → text ≡ s.families → rows ≡ writers s
-unfolding writers
-writers_are s text rows reads same = ap or_nil (sym reads ∙ ap families_of same)
+-- the rows of the epoch's list
+pub rows_listed : (s : Store) (items : List Item) (n : ℕ) (text : List ℕ) (rows : List FamilyRow) → families_of text ≡ Ok rows → text ≡ list_text s.families items n → rows ≡ list_at s.families items n
+unfolding list_at
+rows_listed s items n text rows reads same = ap or_nil (sym reads ∙ ap families_of same)
 
 -- no rule is broken in the epoch's own segment
 pub own_unbroken : (s : Store) (r : Chronicle) → Honest s r → (f : Frame) (b n : ℕ) (ts : List (List ℕ)) (x : Found) → f ≡ epoch_frame s (items_of r b) b n → ts ≡ entries (in_epoch (items_of r b) b n) → broken f ts x.rule x.place x.other ≡ true → ⊥
@@ -122,13 +121,13 @@ not_k7 s r key e h id own holder apart p =
     let tail : List (List ℕ) = g.before.text ∷ chained in
     let rest : List (List ℕ) = g.table_before ∷ tail in
     let v : HonestFrame s r w = honest_frame s r key h id P apart (λ t x. inr x) g w k.framed_is holder.0 holder.1.0 (inl (second_of_list e.families g.table rest)) (inl (behind_first e.families g.table_before (g.table ∷ (g.table_before ∷ tail)) (second_of_list g.table g.table_before tail))) in
-    let list : e.families ≡ s.families = apart e.families s.families (inl (first_of_list e.families (g.table ∷ rest))) (inr (subst (Hashed r) v.seal_families (hashed_seal r v.front v.seal v.back v.at).2)) (k.families_named ∙ v.families) in
-    let writes : k.families ≡ writers s = writers_are s e.families k.families k.families_are list in
+    let list : e.families ≡ v.seal.families = apart e.families v.seal.families (inl (first_of_list e.families (g.table ∷ rest))) (inr (hashed_seal r v.front v.seal v.back v.at).2) (k.families_named ∙ v.families) in
+    let writes : k.families ≡ list_at s.families (items_of r b) n = rows_listed s (items_of r b) n e.families k.families k.families_are (list ∙ v.lists (shard_of b) (omega arith)) in
     let before = row_old s r w v b in
     let after = row_now s r w v b in
     let chain : AllByRecursion P (chain_texts (row w.rows_before b).head ts) = all_contained P (chain_texts (row w.rows_before b).head ts) (λ t x. inl (behind_first e.families t (given_texts g ++ chained) (Contains-append_right (given_texts g) chained t (subst (λ (y : Result Framed ℕ). Contains (chain_texts (opening_head y b) ts) t) (sym k.framed_is) x)))) in
     let segment : ts ≡ entries (in_epoch (items_of r b) b n) = honest_segment s r h P apart (λ t x. inr x) b n (frame_of key k.families w b) ts before after chain k.reaching in
-    let frames : frame_of key k.families w b ≡ epoch_frame s (items_of r b) b n = frames_same s r (sha256 key) k.families b n (row w.rows_before b) (row w.rows b) (sym own) (writes ∙ sym (list_is s (items_of r b) n)) before after in
+    let frames : frame_of key k.families w b ≡ epoch_frame s (items_of r b) b n = frames_same s r (sha256 key) k.families b n (row w.rows_before b) (row w.rows b) (sym own) writes before after in
     own_unbroken s r h (frame_of key k.families w b) b n ts e.fault frames segment k.breaking
 
 -- ---- an attestation that does not stand

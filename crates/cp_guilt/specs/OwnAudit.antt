@@ -1,12 +1,11 @@
 -- What the audit finds of an honest store's own texts (this project's own).
-use Rattle.std.specs.Prelude.{ℕ, ◌-◌, ◌≡◌, true, List, [], ◌∷◌, ◌++◌, Option, Some, None, Ok, IsOk}
+use Rattle.std.specs.Prelude.{ℕ, ◌-◌, ◌≡◌, true, List, [], ◌∷◌, ◌++◌, Option, Some, None, Ok}
 use Rattle.std.specs.List.{AllByRecursion}
 use Rattle.sha2.specs.Sha256.{sha256}
 use Rattle.lms_tree.specs.Verifying.{leaf_of}
 use Rattle.cp_statements.specs.Envelope.{Envelope, envelope_of}
-use Rattle.cp_families.specs.Families.{families_of}
 use Rattle.cp_chain.specs.Log.{LogPart, Log, log_of}
-use Rattle.cp_core.specs.Store.{Store}
+use Rattle.cp_core.specs.Store.{SpellsFamilies, Store}
 use Rattle.cp_core.specs.Life.{in_epoch, entries, items_of}
 use Rattle.cp_core.specs.Honest.{Honest, last_of}
 use Rattle.cp_core.specs.declared.seal_item.SealItem.{SealItem}
@@ -21,6 +20,10 @@ use Rattle.cp_guilt.specs.HonestAudit.{HolderSignedAll}
 abbrev pub IsTableOf : Chronicle → ℕ → List ℕ → Type 0
 IsTableOf r epoch bytes = AllByRecursion (λ (x : SealItem). x.epoch ≡ epoch → bytes ≡ x.table) r.seals
 
+-- the bytes are the families list of the life's seal of the epoch
+abbrev pub IsListOf : Chronicle → ℕ → List ℕ → Type 0
+IsListOf r epoch bytes = AllByRecursion (λ (x : SealItem). x.epoch ≡ epoch → bytes ≡ x.families) r.seals
+
 -- the entries of a block's rows of the epoch, in the order of the life
 abbrev pub own_segment : Chronicle → ℕ → ℕ → List (List ℕ)
 own_segment r epoch b = entries (in_epoch (items_of r b) b epoch)
@@ -29,10 +32,10 @@ own_segment r epoch b = entries (in_epoch (items_of r b) b epoch)
 abbrev pub IsOwnPart : Chronicle → ℕ → LogPart → Type 0
 IsOwnPart r epoch p = p.texts ≡ own_segment r epoch p.block
 
--- The given texts are the life's own: its families list, the tables of its seals of the epoch and of the
--- epoch before, and a log of its rows of the epoch.
+-- The given texts are the life's own: the families list of its seal of the epoch, the tables of its
+-- seals of the epoch and of the epoch before, and a log of its rows of the epoch.
 pub record OwnTexts (s : Store) (r : Chronicle) (o : GivenEpoch) : Type 0 where
-  pub families : o.families_text ≡ s.families
+  pub families : IsListOf r o.epoch o.families_text
   pub table : IsTableOf r o.epoch o.table
   pub table_before : IsTableOf r (o.epoch - 1) o.table_before
   pub log : AllByRecursion (IsOwnPart r o.epoch) (parts_or_none o.log)
@@ -70,16 +73,16 @@ pub record IsOwnLog (r : Chronicle) (epoch : ℕ) (bytes : List ℕ) : Type 0 wh
   pub of_epoch : log.epoch ≡ epoch
   pub segments : (b : ℕ) → part_of log.parts b ≡ where_any (own_segment r epoch b)
 
--- The material is that of a seal of the life: the store's list, which reads; its closing and the one
--- before, each in an envelope that verifies; their tables; and the log of the epoch.
+-- The material is that of a seal of the life: its families list; its closing and the one before, each
+-- in an envelope that verifies; their tables; and the log of the epoch. The store's first list reads.
 pub record OwnMaterial (s : Store) (r : Chronicle) (m : Material) : Type 0 where
   pub front : List SealItem
   pub seal : SealItem
   pub back : List SealItem
   pub at : r.seals ≡ front ++ seal ∷ back
   pub epoch : m.epoch ≡ seal.epoch
-  pub families : m.families ≡ s.families
-  pub list_reads : IsOk (families_of s.families)
+  pub families : m.families ≡ seal.families
+  pub list_reads : SpellsFamilies s.families
   pub closing : IsEnvelopeOf m.key seal m.closing
   pub table : m.table ≡ seal.table
   pub before : IsOwnBefore m (last_of front)

@@ -10,9 +10,9 @@ pub fn honest_is_clean()
     ensures { HonestIsClean }
 {}
 
-/// Where the given texts are the life's own (its families list, the tables of its seals, the log of its
-/// rows of the epoch), they are clean whatever digests do: that the holder of the key alone signs is
-/// enough.
+/// Where the given texts are the life's own (the families list of the epoch, the tables of its seals,
+/// the log of its rows of the epoch), they are clean whatever digests do: that the holder of the key
+/// alone signs is enough.
 pub fn own_is_clean()
     ensures { OwnIsClean }
 {}

@@ -1,15 +1,17 @@
--- The families list of a script: it fits, and each put's client is in it.
-use Rattle.std.proofs.Common.{◌≡◌, inl, inr, ℕ, suc, ◌^◌, ◌<◌, List, [], ◌∷◌, length, Option, Some, None, Bool, true, false, cond, refl, ap, sym, arith}
-use Rattle.std.specs.Prelude.{map, nat_lt, ◌==◌, ◌&&◌, ◌||◌}
+-- The families list of a script fits, and so does a list less a client.
+use Rattle.std.proofs.Common.{◌≡◌, inl, inr, ℕ, suc, ◌^◌, ◌<◌, ◌≤◌, List, [], ◌∷◌, length, Option, Some, None, Bool, true, false, cond, refl, ap, sym, subst, ◌∙◌, arith}
+use Rattle.std.specs.Prelude.{filter, map, nat_lt, not, ◌==◌, ◌&&◌, ◌||◌}
 use Rattle.std.specs.List.{AllByRecursion}
-use Rattle.std.proofs.lemmas.Bool.{and_from, and_parts, lt-ltb, eq-eqb, cases_lt}
+use Rattle.std.proofs.lemmas.Bool.{and_from, and_parts, or_cases, lt-ltb, ltb-true, eq-eqb, eqb-true, cases_lt}
 use Rattle.lms_tree.specs.PublicKey.{key_reads}
-use Rattle.cp_families.specs.Families.{FamilyRow, FamilyRowFits, FamiliesFit, comes_after, family_ascends, key_of}
-use Rattle.cp_families.specs.Writers.{family_of}
+use Rattle.cp_families.specs.Families.{FamilyRow, FamilyRowFits, FamiliesFit, comes_after, families_of, families_text, family_ascends}
+use Rattle.cp_families.proofs.Exact.{families_again}
+use Rattle.cp_core.specs.Store.{SpellsFamilies, or_nil}
+use Rattle.cp_store.proofs.Blocks.{all_filter}
 use Rattle.cp_replay.specs.Script.{LineFits, ScriptFits}
-use Rattle.cp_replay.specs.Writers.{is_before, is_same, with_writer, with_line, with_lines, row_for, rows_for}
+use Rattle.cp_replay.specs.Writers.{IsListOf, is_before, is_other, is_same, list_without, with_writer, with_line, with_lines, row_for, rows_for}
 use Rattle.cp_replay.specs.declared.line.Line.{Line}
-use Rattle.cp_replay.specs.declared.line.Line.TheVariants.{Put, Get, Close, At}
+use Rattle.cp_replay.specs.declared.line.Line.TheVariants.{Put, Get, Close, CloseWithout, At}
 use Rattle.cp_replay.specs.declared.writer.Writer.{Writer}
 use Rattle.cp_replay.proofs.WriterLemmas.{few_lines}
 
@@ -71,6 +73,7 @@ rises_line : (key : List ℕ) (ws : List Writer) (line : Line) → rises key Non
 rises_line key ws (Put client block nonce version content) up = rises_more key None ws _ up refl
 rises_line key ws (Get client block nonce) up = up
 rises_line key ws Close up = up
+rises_line key ws (CloseWithout client) up = up
 rises_line key ws (At epoch) up = up
 
 rises_all : (key : List ℕ) (ws : List Writer) (lines : List Line) → rises key None ws → rises key None (with_lines ws lines)
@@ -97,6 +100,7 @@ fits_line : (ws : List Writer) (line : Line) → LineFits line → AllByRecursio
 fits_line ws (Put client block nonce version content) fits all = fits_more ws _ all (omega (arith, fits.1), fits.0)
 fits_line ws (Get client block nonce) fits all = all
 fits_line ws Close fits all = all
+fits_line ws (CloseWithout client) fits all = all
 fits_line ws (At epoch) fits all = all
 
 fits_all : (ws : List Writer) (lines : List Line) → AllByRecursion LineFits lines → AllByRecursion Fits ws → AllByRecursion Fits (with_lines ws lines)
@@ -117,71 +121,86 @@ unfolding rows_for
 list_fits key lines long reads fits =
     (omega (arith, rows_many key (with_lines [] lines), few_lines [] lines, fits.few), rises_all key [] lines refl, rows_fit key (with_lines [] lines) long reads (fits_all [] lines fits.each tt))
 
--- ---- who is in it
-
-abbrev Has : List ℕ → List Writer → ℕ → ℕ → Type 0
-Has key ws family client = key_of (map (row_for key) ws) family client ≡ Some key
-
-either : (b : Bool) (key : List ℕ) (r : Option (List ℕ)) → r ≡ Some key → cond b (Some key) r ≡ Some key
-either true key r e = refl
-either false key r e = e
-
-otherwise : (b : Bool) (key : List ℕ) (r s : Option (List ℕ)) → (r ≡ Some key → s ≡ Some key) → cond b (Some key) r ≡ Some key → cond b (Some key) s ≡ Some key
-otherwise true key r s more e = refl
-otherwise false key r s more e = more e
-
-itself : (key : List ℕ) (w : Writer) (ws : List Writer) → Has key (w ∷ ws) w.family w.client
-itself key w ws = rw (eq-eqb w.family w.family refl, eq-eqb w.client w.client refl) refl
-
-has_new_in : (key : List ℕ) (x : Writer) (xs ys : List Writer) (w : Writer) (b c : Bool) → is_same x w ≡ c → Has key ys w.family w.client → Has key (cond b (x ∷ ys) (cond c (x ∷ xs) (w ∷ (x ∷ xs)))) w.family w.client
-has_new_in key x xs ys w true c e others = either (is_same x w) key _ others
-has_new_in key x xs ys w false true e others = rw e refl
-has_new_in key x xs ys w false false e others = itself key w (x ∷ xs)
-
-has_new : (key : List ℕ) (xs : List Writer) (w : Writer) → Has key (with_writer xs w) w.family w.client
-unfolding with_writer
-has_new key [] w = itself key w []
-has_new key (x ∷ xs) w = has_new_in key x xs (with_writer xs w) w (is_before x w) (is_same x w) refl (has_new key xs w)
-
-has_still_in : (key : List ℕ) (x : Writer) (xs ys : List Writer) (w : Writer) (f n : ℕ) (b c : Bool) → (Has key xs f n → Has key ys f n) → Has key (x ∷ xs) f n → Has key (cond b (x ∷ ys) (cond c (x ∷ xs) (w ∷ (x ∷ xs)))) f n
-has_still_in key x xs ys w f n true c others has = otherwise ((x.family == f) && (x.client == n)) key _ _ others has
-has_still_in key x xs ys w f n false true others has = has
-has_still_in key x xs ys w f n false false others has = either ((w.family == f) && (w.client == n)) key _ has
-
-has_still : (key : List ℕ) (xs : List Writer) (w : Writer) (f n : ℕ) → Has key xs f n → Has key (with_writer xs w) f n
-unfolding with_writer
-has_still key [] w f n has = absurd cc
-has_still key (x ∷ xs) w f n has = has_still_in key x xs (with_writer xs w) w f n (is_before x w) (is_same x w) (has_still key xs w f n) has
-
-has_line : (key : List ℕ) (ws : List Writer) (line : Line) (f n : ℕ) → Has key ws f n → Has key (with_line ws line) f n
-has_line key ws (Put client block nonce version content) f n has = has_still key ws _ f n has
-has_line key ws (Get client block nonce) f n has = has
-has_line key ws Close f n has = has
-has_line key ws (At epoch) f n has = has
-
-has_lines : (key : List ℕ) (ws : List Writer) (lines : List Line) (f n : ℕ) → Has key ws f n → Has key (with_lines ws lines) f n
-unfolding with_lines
-has_lines key ws [] f n has = has
-has_lines key ws (line ∷ lines) f n has = has_lines key (with_line ws line) lines f n (has_line key ws line f n has)
-
--- the list has the key for a put's client
-abbrev pub IsListed : List ℕ → List FamilyRow → Line → Type 0
-IsListed key rows (Put client block nonce version content) = key_of rows (family_of block) client ≡ Some key
-IsListed key rows (Get client block nonce) = Unit {0}
-IsListed key rows Close = Unit {0}
-IsListed key rows (At epoch) = Unit {0}
-
-first_listed : (key : List ℕ) (ws : List Writer) (line : Line) (lines : List Line) → IsListed key (map (row_for key) (with_lines (with_line ws line) lines)) line
-first_listed key ws (Put client block nonce version content) lines = has_lines key _ lines (family_of block) client (has_new key ws (record { family = family_of block; client = client }))
-first_listed key ws (Get client block nonce) lines = tt
-first_listed key ws Close lines = tt
-first_listed key ws (At epoch) lines = tt
-
-each_listed : (key : List ℕ) (ws : List Writer) (lines : List Line) → AllByRecursion (IsListed key (map (row_for key) (with_lines ws lines))) lines
-unfolding with_lines
-each_listed key ws [] = tt
-each_listed key ws (line ∷ lines) = (first_listed key ws line lines, each_listed key (with_line ws line) lines)
-
-pub all_listed : (key : List ℕ) (lines : List Line) → AllByRecursion (IsListed key (rows_for key lines)) lines
+pub writers_fit : (key : List ℕ) (lines : List Line) (ws : List Writer) → length key ≡ 56 → key_reads key ≡ true → ScriptFits lines → ws ≡ with_lines [] lines → FamiliesFit (map (row_for key) ws)
 unfolding rows_for
-all_listed key lines = each_listed key [] lines
+writers_fit key lines ws long reads fits is = subst (λ (l : List Writer). FamiliesFit (map (row_for key) l)) (sym is) (list_fits key lines long reads fits)
+
+-- ---- a list less some rows
+
+after_both : (before : Option FamilyRow) (r x : FamilyRow) → comes_after before r.family r.client ≡ true → comes_after (Some r) x.family x.client ≡ true → comes_after before x.family x.client ≡ true
+after_both None r x a b = refl
+after_both (Some q) r x a b =
+    elim (or_cases (nat_lt q.family r.family) ((q.family == r.family) && nat_lt q.client r.client) a) [
+      | inl less ↦ elim (or_cases (nat_lt r.family x.family) ((r.family == x.family) && nat_lt r.client x.client) b) [
+        | inl more ↦ or_left (nat_lt q.family x.family) _ (lt-ltb q.family x.family (omega (arith, ltb-true q.family r.family less, ltb-true r.family x.family more)))
+        | inr same ↦
+            let p = and_parts (r.family == x.family) (nat_lt r.client x.client) same in
+            or_left (nat_lt q.family x.family) _ (lt-ltb q.family x.family (omega (arith, ltb-true q.family r.family less, eqb-true r.family x.family p.0)))
+      ]
+      | inr first ↦
+          let p = and_parts (q.family == r.family) (nat_lt q.client r.client) first in
+          elim (or_cases (nat_lt r.family x.family) ((r.family == x.family) && nat_lt r.client x.client) b) [
+            | inl more ↦ or_left (nat_lt q.family x.family) _ (lt-ltb q.family x.family (omega (arith, eqb-true q.family r.family p.0, ltb-true r.family x.family more)))
+            | inr same ↦
+                let w = and_parts (r.family == x.family) (nat_lt r.client x.client) same in
+                or_right (nat_lt q.family x.family) _ (and_from _ _ (eq-eqb q.family x.family (eqb-true q.family r.family p.0 ∙ eqb-true r.family x.family w.0)) (lt-ltb q.client x.client (omega (arith, ltb-true q.client r.client p.1, ltb-true r.client x.client w.1))))
+          ]
+    ]
+
+-- a list ascends behind each row that comes before one before it
+skipped : (before : Option FamilyRow) (r : FamilyRow) (rs : List FamilyRow) → comes_after before r.family r.client ≡ true → family_ascends (Some r) rs ≡ true → family_ascends before rs ≡ true
+skipped before r [] after up = refl
+skipped before r (x ∷ xs) after up =
+    let p = and_parts (comes_after (Some r) x.family x.client) (family_ascends (Some x) xs) up in
+    and_from _ _ (after_both before r x after p.0) p.1
+
+rises_less : (p : FamilyRow → Bool) (before : Option FamilyRow) (rs : List FamilyRow) → family_ascends before rs ≡ true → family_ascends before (filter p rs) ≡ true
+rises_less p before [] up = refl
+rises_less p before (r ∷ rs) up = go (p r) (and_parts (comes_after before r.family r.client) (family_ascends (Some r) rs) up) (rises_less p (Some r) rs) (rises_less p before rs)
+  where
+    go : (b : Bool) → (comes_after before r.family r.client ≡ true) × (family_ascends (Some r) rs ≡ true) → (family_ascends (Some r) rs ≡ true → family_ascends (Some r) (filter p rs) ≡ true) → (family_ascends before rs ≡ true → family_ascends before (filter p rs) ≡ true)
+        → family_ascends before (cond b (r ∷ filter p rs) (filter p rs)) ≡ true
+    go true w behind others = and_from _ _ w.0 (behind w.1)
+    go false w behind others = others (skipped before r rs w.0 w.1)
+
+few_less : (p : FamilyRow → Bool) (rs : List FamilyRow) → length (filter p rs) ≤ length rs
+few_less p [] = omega arith
+few_less p (r ∷ rs) = go (p r) (few_less p rs)
+  where
+    go : (b : Bool) → length (filter p rs) ≤ length rs → length (cond b (r ∷ filter p rs) (filter p rs)) ≤ length (r ∷ rs)
+    go true le = omega (arith, le)
+    go false le = omega (arith, le)
+
+pub fits_less : (p : FamilyRow → Bool) (rs : List FamilyRow) → FamiliesFit rs → FamiliesFit (filter p rs)
+fits_less p rs fits = (omega (arith, few_less p rs, fits.0), rises_less p None rs fits.1, all_filter FamilyRowFits p rs fits.2)
+
+-- the rows of those that are left are the rows that are left
+pub rows_less : (key : List ℕ) (client : ℕ) (ws : List Writer) → map (row_for key) (filter (is_other client) ws) ≡ filter (λ r. not (r.client == client)) (map (row_for key) ws)
+rows_less key client [] = refl
+rows_less key client (w ∷ ws) = go (not (w.client == client)) (rows_less key client ws)
+  where
+    rest : List FamilyRow
+    rest = filter (λ r. not (r.client == client)) (map (row_for key) ws)
+
+    go : (b : Bool) → map (row_for key) (filter (is_other client) ws) ≡ rest → map (row_for key) (cond b (w ∷ filter (is_other client) ws) (filter (is_other client) ws)) ≡ cond b (row_for key w ∷ rest) rest
+    go true e = ap (λ (rs : List FamilyRow). row_for key w ∷ rs) e
+    go false e = e
+
+-- those that are left make a list
+pub others_fit : (key : List ℕ) (client : ℕ) (ws : List Writer) → FamiliesFit (map (row_for key) ws) → FamiliesFit (map (row_for key) (filter (is_other client) ws))
+others_fit key client ws fits = subst FamiliesFit (sym (rows_less key client ws)) (fits_less (λ r. not (r.client == client)) (map (row_for key) ws) fits)
+
+-- and its text is that of the list less the client
+pub without_is : (key : List ℕ) (client : ℕ) (ws : List Writer) (text : List ℕ) → IsListOf text (map (row_for key) ws) → families_text (map (row_for key) (filter (is_other client) ws)) ≡ list_without client text
+unfolding list_without
+without_is key client ws text of =
+    ap families_text (rows_less key client ws)
+    ∙ ap (λ (rs : List FamilyRow). families_text (filter (λ r. not (r.client == client)) rs)) (sym (ap or_nil (families_again (map (row_for key) ws) of.fits)))
+    ∙ ap (list_from client) (sym of.text)
+  where
+    list_from : ℕ → List ℕ → List ℕ
+    list_from client text = families_text (filter (λ r. not (r.client == client)) (or_nil (families_of text)))
+
+-- whoever has a list has bytes that read
+pub list_spells : (text : List ℕ) (rows : List FamilyRow) → IsListOf text rows → SpellsFamilies text
+list_spells text rows of = rw (ap families_of of.text ∙ families_again rows of.fits) refl

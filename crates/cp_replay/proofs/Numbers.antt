@@ -8,10 +8,11 @@ use Rattle.std.proofs.lemmas.Bool.{and_parts, leb-true, le-leb}
 use Rattle.std.proofs.lemmas.Slice.Eq.{bytes_eq-Decides}
 use Rattle.std.specs.Str.{IsUtf8}
 use Rattle.std.proofs.lemmas.Str.{IsUtf8-from_ascii}
-use Rattle.cp_replay.specs.Words.{number_of, is_content, is_printable}
+use Rattle.cp_words.specs.Numbers.{number_in}
+use Rattle.cp_replay.specs.Words.{is_content, is_printable}
 
-pub number_is : (least most n : ℕ) (word : List ℕ) → word ≡ decimal n → least ≤ n → n ≤ most → n < 2 ^ 64 → number_of least most word ≡ Some n
-unfolding number_of
+pub number_is : (least most n : ℕ) (word : List ℕ) → word ≡ decimal n → least ≤ n → n ≤ most → n < 2 ^ 64 → number_in least most word ≡ Some n
+unfolding number_in
 number_is least most n word spelled low high fits =
     let v : digits_value 10 word ≡ n = ap (digits_value 10) spelled ∙ (decimal_is_IsNumeral n fits).1 in
     let b : bytes_eq word (decimal n) ≡ true = (bytes_eq-Decides word (decimal n)).1 spelled in
@@ -21,8 +22,8 @@ decided : (b : Bool) (v : ℕ) → (b ≡ true → ⊥) → cond b (Some v) None
 decided true v never = absurd (never refl)
 decided false v _ = refl
 
-pub number_is_not : (least most : ℕ) (word : List ℕ) → ((n : ℕ) → least ≤ n → n ≤ most → word ≢ decimal n) → number_of least most word ≡ None
-unfolding number_of
+pub number_is_not : (least most : ℕ) (word : List ℕ) → ((n : ℕ) → least ≤ n → n ≤ most → word ≢ decimal n) → number_in least most word ≡ None
+unfolding number_in
 number_is_not least most word never =
     let v = digits_value 10 word in
     decided _ v (λ t.
@@ -31,8 +32,8 @@ number_is_not least most word never =
     never v (leb-true least v q.1) (leb-true v most p.1) ((bytes_eq-Decides word (decimal v)).0 q.0))
 
 -- bytes that are no text spell no number
-pub number_of_none : (least most : ℕ) (word : List ℕ) → most < 2 ^ 64 → ¬ (IsUtf8 word) → number_of least most word ≡ None
-number_of_none least most word fits none = number_is_not least most word (λ n low high e. none (subst IsUtf8 (sym e) (IsUtf8-from_ascii (decimal n) (IsAscii-decimal n (omega (arith, high, fits))))))
+pub number_in_none : (least most : ℕ) (word : List ℕ) → most < 2 ^ 64 → ¬ (IsUtf8 word) → number_in least most word ≡ None
+number_in_none least most word fits none = number_is_not least most word (λ n low high e. none (subst IsUtf8 (sym e) (IsUtf8-from_ascii (decimal n) (IsAscii-decimal n (omega (arith, high, fits))))))
 
 -- a content is short
 pub content_short : (word : List ℕ) → is_content word ≡ true → length word ≤ 65536
@@ -42,4 +43,4 @@ content_short word e =
 
 pub ruleset contents = (content_short)
 
-pub ruleset numbers = (number_is, number_is_not, number_of_none)
+pub ruleset numbers = (number_is, number_is_not, number_in_none)

@@ -1,10 +1,12 @@
 -- The writers of lines, one line after another.
 use Rattle.std.proofs.Common.{◌≡◌, ℕ, Bool, true, false, cond, suc, ◌+◌, ◌<◌, ◌≤◌, List, [], ◌∷◌, ◌++◌, length, drop, get_or, ap, sym, ◌∙◌, arith, drop-cons}
+use Rattle.std.specs.Prelude.{filter}
 use Rattle.std.proofs.lemmas.List.{drop_all}
+use Rattle.std.proofs.lemmas.List.Elements.{filter-append}
 use Rattle.cp_families.specs.Families.{family_text}
-use Rattle.cp_replay.specs.Writers.{is_before, is_same, with_writer, with_line, with_lines, row_for, rows_text}
+use Rattle.cp_replay.specs.Writers.{is_before, is_other, is_same, with_writer, with_line, with_lines, row_for, rows_text}
 use Rattle.cp_replay.specs.declared.line.Line.{Line}
-use Rattle.cp_replay.specs.declared.line.Line.TheVariants.{Put, Get, Close, At}
+use Rattle.cp_replay.specs.declared.line.Line.TheVariants.{Put, Get, Close, CloseWithout, At}
 use Rattle.cp_replay.specs.declared.writer.Writer.{Writer}
 
 pub lines_next : (ws : List Writer) (lines : List Line) (i j : ℕ) (line : Line) → i < length lines → line ≡ get_or lines i line → j ≡ i + 1
@@ -41,6 +43,7 @@ few_line : (xs : List Writer) (line : Line) → length (with_line xs line) ≤ l
 few_line xs (Put client block nonce version content) = few_more xs _
 few_line xs (Get client block nonce) = omega arith
 few_line xs Close = omega arith
+few_line xs (CloseWithout client) = omega arith
 few_line xs (At epoch) = omega arith
 
 pub few_lines : (xs : List Writer) (lines : List Line) → length (with_lines xs lines) ≤ length xs + length lines
@@ -55,3 +58,15 @@ few_writers lines ws e = omega (arith, ap length e, few_lines [] lines)
 pub ruleset each_line = (lines_next, lines_end, few_writers)
 
 pub ruleset each_row = (rows_next, rows_end)
+
+pub others_next : (client : ℕ) (ws : List Writer) (i j : ℕ) (w : Writer) → i < length ws → w ≡ get_or ws i w → j ≡ i + 1
+    → filter (is_other client) (drop i ws) ≡ filter (is_other client) (w ∷ []) ++ filter (is_other client) (drop j ws)
+others_next client ws i j w inside is next =
+    let after : suc i ≡ j = omega (arith, next) in
+    ap (filter (is_other client)) (drop-cons ws i w inside) ∙ ap (λ l. filter (is_other client) (l ∷ drop (suc i) ws)) (sym is) ∙ filter-append (is_other client) (w ∷ []) (drop (suc i) ws)
+    ∙ ap (λ n. filter (is_other client) (w ∷ []) ++ filter (is_other client) (drop n ws)) after
+
+pub others_end : (client : ℕ) (ws : List Writer) (i : ℕ) → length ws ≤ i → filter (is_other client) (drop i ws) ≡ []
+others_end client ws i past = ap (filter (is_other client)) (drop_all i ws past)
+
+pub ruleset each_other = (others_next, others_end)

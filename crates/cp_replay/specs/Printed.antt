@@ -19,6 +19,8 @@ labelled label n = label ++ decimal n
 -- a refusal is its name and its numbers, each with its name
 unfoldable pub call_refused : CallRefusal → List ℕ
 call_refused (call.WrongEpoch current) = labelled (codes "WrongEpoch current=") current
+call_refused (call.NotAWriter family client) = labelled (codes "NotAWriter family=") family ++ labelled (codes " client=") client
+call_refused call.BadSignature = codes "BadSignature"
 call_refused (call.NonceUsed position) = labelled (codes "NonceUsed position=") position
 call_refused (call.Overtaken latest) = labelled (codes "Overtaken latest=") latest
 call_refused (call.StaleVersion latest) = labelled (codes "StaleVersion latest=") latest
@@ -28,6 +30,7 @@ call_refused (call.LeavesOver over) = labelled (codes "LeavesOver drawn=") over.
 
 unfoldable pub close_refused : CloseRefusal → List ℕ
 close_refused (close.WrongEpoch current) = labelled (codes "WrongEpoch current=") current
+close_refused close.OtherList = codes "OtherList"
 close_refused (close.ClosingsOver sealed limit) = labelled (codes "ClosingsOver sealed=") sealed ++ labelled (codes " limit=") limit
 
 -- position and version as they are attested, and the leaf, behind a label; nothing for a text that

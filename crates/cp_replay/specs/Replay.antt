@@ -28,10 +28,10 @@ use Rattle.cp_core.specs.declared.seal_item.SealItem.{SealItem}
 use Rattle.cp_closer.specs.Laws.{log_at}
 use Rattle.cp_store.specs.Closes.{closing_events}
 use Rattle.cp_replay.specs.Keys.{store_secret, writer_secret, closings_in}
-use Rattle.cp_replay.specs.Writers.{rows_for}
+use Rattle.cp_replay.specs.Writers.{list_without, rows_for}
 use Rattle.cp_replay.specs.Printed.{call_line, close_refused, closed_line, at_line}
 use Rattle.cp_replay.specs.declared.line.Line.{Line}
-use Rattle.cp_replay.specs.declared.line.Line.TheVariants.{Put, Get, Close, At}
+use Rattle.cp_replay.specs.declared.line.Line.TheVariants.{Put, Get, Close, CloseWithout, At}
 use Rattle.cp_replay.specs.declared.epoch_files.EpochFiles.{EpochFiles}
 
 -- what a replay is made with
@@ -40,6 +40,9 @@ pub record Making : Type 0 where
   pub ots : OtsType
   pub seed : List ℕ  -- its seed file: SEED of 32 bytes and I of 16
   pub pages : ℕ  -- of each shard
+
+abbrev pub making : Height → OtsType → List ℕ → ℕ → Making
+making height ots seed pages = record { height = height; ots = ots; seed = seed; pages = pages }
 
 abbrev pub key_of : Making → Secret
 key_of m = store_secret m.height m.ots m.seed
@@ -82,8 +85,8 @@ pub record Progress : Type 0 where
   pub handins : List ℕ  -- the envelopes of the attestations
   pub epochs : List EpochFiles  -- the files of the closed epochs
 
-abbrev pub at_first : Progress
-at_first = record { state = opening; named = 1; text = []; handins = []; epochs = [] }
+abbrev pub at_first : Store → Progress
+at_first s = record { state = opening s; named = 1; text = []; handins = []; epochs = [] }
 
 -- with one more line printed
 abbrev pub printed : List ℕ → List ℕ → List ℕ
@@ -121,18 +124,19 @@ abbrev pub closed : Secret → Progress → State → Option SealItem → Progre
 closed key p after None = p
 closed key p after (Some x) = record p { state = after; named = x.epoch + 1; text = printed p.text (closed_line (closing_of x.text)); epochs = p.epochs ++ files_of key after.life x ∷ [] }
 
-abbrev pub after_begin : Secret → Store → Progress → Answer → Progress
-after_begin key s p Done = closed key p (run_from s p.state closing_events) (last_of (run_from s p.state closing_events).life.seals)
-after_begin key s p (CloseRefused why) = record p { text = printed p.text (close_refused why) }
-after_begin key s p (Booked b) = p
-after_begin key s p (CallRefused why) = p
-after_begin key s p (Text epoch) = p
-after_begin key s p (NotClosed count) = p
-after_begin key s p (NotNow phase) = p
+abbrev pub after_begin : Secret → Store → Progress → Option (List ℕ) → Answer → Progress
+after_begin key s p next Done = closed key p (run_from s p.state (closing_events next)) (last_of (run_from s p.state (closing_events next)).life.seals)
+after_begin key s p next (CloseRefused why) = record p { text = printed p.text (close_refused why) }
+after_begin key s p next (Booked b) = p
+after_begin key s p next (CallRefused why) = p
+after_begin key s p next (Text epoch) = p
+after_begin key s p next (NotClosed count) = p
+after_begin key s p next (NotNow phase) = p
 
--- the current epoch is closed, whatever epoch was named: a refusal is that of the closing's beginning
-unfoldable pub after_close : Secret → Store → Progress → Progress
-after_close key s p = after_begin key s p (step s p.state Begin).0
+-- the current epoch is closed, whatever epoch was named, with the next one's families list, if one is
+-- named: a refusal is that of the closing's beginning
+unfoldable pub after_close : Secret → Store → Progress → Option (List ℕ) → Progress
+after_close key s p next = after_begin key s p next (step s p.state (Begin next)).0
 
 -- ---- a line, and all lines
 
@@ -140,7 +144,8 @@ after_close key s p = after_begin key s p (step s p.state Begin).0
 unfoldable pub after_line : Secret → Secret → Store → ℕ → Progress → Line → Progress
 after_line key writer s i p (Put client block nonce version content) = after_call key s p kind.Put (put_signed writer i (put_asked s.id p.named client block nonce version content) content)
 after_line key writer s i p (Get client block nonce) = after_call key s p kind.Get (request.Get (get_asked s.id p.named client block nonce))
-after_line key writer s i p Close = after_close key s p
+after_line key writer s i p Close = after_close key s p None
+after_line key writer s i p (CloseWithout client) = after_close key s p (Some (list_without client p.state.kept))
 after_line key writer s i p (At epoch) = record p { named = epoch; text = printed p.text (at_line epoch) }
 
 -- the lines from this number on
@@ -149,15 +154,15 @@ after_lines key writer s i p [] = p
 after_lines key writer s i p (line ∷ lines) = after_lines key writer s (i + 1) (after_line key writer s i p line) lines
 
 -- what a replay printed, and its files
-pub record Outcome : Type 0 where
+pub record ReplayFiles : Type 0 where
   pub key : List ℕ  -- the store's
   pub text : List ℕ
   pub handins : List ℕ
   pub epochs : List EpochFiles
 
-abbrev pub outcome_of : List ℕ → Progress → Outcome
-outcome_of key p = record { key = key; text = p.text; handins = p.handins; epochs = p.epochs }
+abbrev pub files_after : List ℕ → Progress → ReplayFiles
+files_after key p = record { key = key; text = p.text; handins = p.handins; epochs = p.epochs }
 
 -- the whole of it
-unfoldable pub replayed : Making → List Line → Outcome
-replayed m lines = outcome_of (public_of (key_of m)) (after_lines (key_of m) (writer_of m) (store_of m lines) 0 at_first lines)
+unfoldable pub replayed : Making → List Line → ReplayFiles
+replayed m lines = files_after (public_of (key_of m)) (after_lines (key_of m) (writer_of m) (store_of m lines) 0 (at_first (store_of m lines)) lines)

@@ -2,9 +2,10 @@
 use Rattle.std.specs.Prelude.{ℕ, zero, suc, ◌+◌, ◌-◌, ◌^◌, ◌<◌, ◌≤◌, Bool, List, [], ◌∷◌, length, take, drop, Option, Some, None, Result, Ok, Err, ◌==◌, if◌then◌else◌, bytes_eq, codes}
 use Rattle.std.specs.List.{AllByRecursion, position}
 use Rattle.cp_bytes.specs.Fields.{at_offset}
-use Rattle.cp_replay.specs.Words.{◌>>=◌, with_rest, words_in, number_at, content_at, only}
+use Rattle.cp_words.specs.Options.{◌>>=◌}
+use Rattle.cp_replay.specs.Words.{with_rest, words_in, number_at, content_at, only}
 use Rattle.cp_replay.specs.declared.line.Line.{Line}
-use Rattle.cp_replay.specs.declared.line.Line.TheVariants.{Put, Get, Close, At}
+use Rattle.cp_replay.specs.declared.line.Line.TheVariants.{Put, Get, Close, CloseWithout, At}
 
 -- ---- one line
 
@@ -29,13 +30,22 @@ at_of words = do
   epoch ← number_at 1 (2 ^ 64 - 1) words
   only (At epoch.0) epoch.1
 
+unfoldable pub without_of : List (List ℕ) → Option Line
+without_of words = do
+  client ← number_at 0 (2 ^ 32 - 1) words
+  only (CloseWithout client.0) client.1
+
+unfoldable pub close_of : List (List ℕ) → Option Line
+close_of [] = Some Close
+close_of (word ∷ words) = if bytes_eq word (codes "without") then without_of words else None
+
 -- the line of these words: the first one names what it is
 abbrev pub line_of_words : List (List ℕ) → Option Line
 line_of_words [] = None
 line_of_words (name ∷ words) =
     if bytes_eq name (codes "put") then put_of words
     else if bytes_eq name (codes "get") then get_of words
-    else if bytes_eq name (codes "close") then only Close words
+    else if bytes_eq name (codes "close") then close_of words
     else if bytes_eq name (codes "at") then at_of words
     else None
 
@@ -87,6 +97,7 @@ abbrev pub LineFits : Line → Type 0
 LineFits (Put client block nonce version content) = (client < 2 ^ 32) × (block < 2 ^ 64) × (nonce < 2 ^ 64) × (version < 2 ^ 64) × (length content ≤ 65536)
 LineFits (Get client block nonce) = (client < 2 ^ 32) × (block < 2 ^ 64) × (nonce < 2 ^ 64)
 LineFits Close = Unit {0}
+LineFits (CloseWithout client) = client < 2 ^ 32
 LineFits (At epoch) = (1 ≤ epoch) × (epoch < 2 ^ 64)
 
 pub record ScriptFits (lines : List Line) : Type 0 where

@@ -2,7 +2,7 @@
 use Rattle.std.specs.Prelude.{ℕ, ◌≡◌, List, [], Option, Some, None, Err}
 use Rattle.cp_replay.specs.Words.{words_in}
 use Rattle.cp_replay.specs.Script.{script_of}
-use Rattle.cp_replay.specs.Replay.{Outcome}
+use Rattle.cp_replay.specs.Replay.{ReplayFiles}
 use Rattle.cp_replay.specs.declared.replayed.Replayed.{Replayed}
 use Rattle.cp_replay.specs.declared.script_refusal.ScriptRefusal.{ScriptRefusal}
 use Rattle.cp_replay.specs.declared.script_refusal.ScriptRefusal.TheVariants.{Malformed, OutOfMemory}
@@ -18,5 +18,5 @@ IsWhyRefused bytes (Malformed at) = script_of bytes ≡ Err at
 IsWhyRefused bytes OutOfMemory = Unit {0}
 
 -- what a replay printed, and its files
-abbrev pub outcome_view : Replayed → Outcome
-outcome_view x = record { key = x.key; text = x.text; handins = x.handins; epochs = x.epochs.items }
+abbrev pub replayed_view : Replayed → ReplayFiles
+replayed_view x = record { key = x.key; text = x.text; handins = x.handins; epochs = x.epochs.items }

@@ -1,13 +1,7 @@
 -- The words of a script's line (this project's own).
-use Rattle.std.specs.Prelude.{ℕ, Bool, ◌&&◌, List, [], ◌∷◌, length, Option, Some, None, nat_le, ◌==◌, if◌then◌else◌, bytes_eq, decimal}
+use Rattle.std.specs.Prelude.{ℕ, Bool, ◌&&◌, List, [], ◌∷◌, length, Option, Some, None, nat_le, ◌==◌, if◌then◌else◌}
 use Rattle.std.specs.List.{slice_split, list_all}
-use Rattle.std.specs.Str.Parse.{digits_value}
-
--- a step after a step: the first one that fails decides
-infixl 10 ◌>>=◌
-abbrev pub ◌>>=◌ : {A B : Type 0} → Option A → (A → Option B) → Option B
-(Some x) >>= f = f x
-None >>= f = None
+use Rattle.cp_words.specs.Numbers.{number_in}
 
 -- what was read, and what is left after it
 abbrev pub with_rest : {A B : Type 0} → B → Option A → Option (A × B)
@@ -21,17 +15,10 @@ is_space byte = byte == 32
 abbrev pub words_in : List ℕ → List (List ℕ)
 words_in text = slice_split is_space text
 
--- The number from `least` to `most` that a word spells in decimal digits, without a sign and without
--- leading zeros. So the word is the one spelling of the value of its digits.
-unfoldable pub number_of : ℕ → ℕ → List ℕ → Option ℕ
-number_of least most word =
-    if bytes_eq word (decimal (digits_value 10 word)) && nat_le least (digits_value 10 word) && nat_le (digits_value 10 word) most
-    then Some (digits_value 10 word) else None
-
 -- the number that the first word spells, and the words behind it
 abbrev pub number_at : ℕ → ℕ → List (List ℕ) → Option (ℕ × List (List ℕ))
 number_at least most [] = None
-number_at least most (word ∷ words) = with_rest words (number_of least most word)
+number_at least most (word ∷ words) = with_rest words (number_in least most word)
 
 -- printable ASCII without space
 abbrev pub is_printable : ℕ → Bool

@@ -1,9 +1,10 @@
--- The families list of a script (this project's own).
-use Rattle.std.specs.Prelude.{ℕ, Bool, ◌&&◌, ◌||◌, List, [], ◌∷◌, map, flat_map, nat_lt, ◌==◌, if◌then◌else◌}
-use Rattle.cp_families.specs.Families.{FamilyRow, family_text}
+-- The families list of a script, and a list less a client (this project's own).
+use Rattle.std.specs.Prelude.{ℕ, Bool, not, ◌&&◌, ◌||◌, ◌≡◌, List, [], ◌∷◌, map, flat_map, filter, nat_lt, ◌==◌, if◌then◌else◌}
+use Rattle.cp_families.specs.Families.{FamiliesFit, FamilyRow, families_of, families_text, family_text}
+use Rattle.cp_core.specs.Store.{or_nil}
 use Rattle.cp_families.specs.Writers.{family_of}
 use Rattle.cp_replay.specs.declared.line.Line.{Line}
-use Rattle.cp_replay.specs.declared.line.Line.TheVariants.{Put, Get, Close, At}
+use Rattle.cp_replay.specs.declared.line.Line.TheVariants.{Put, Get, Close, CloseWithout, At}
 use Rattle.cp_replay.specs.declared.writer.Writer.{Writer}
 
 -- by family, and then by client
@@ -23,6 +24,7 @@ abbrev pub with_line : List Writer → Line → List Writer
 with_line ws (Put client block nonce version content) = with_writer ws (record { family = family_of block; client = client })
 with_line ws (Get client block nonce) = ws
 with_line ws Close = ws
+with_line ws (CloseWithout client) = ws
 with_line ws (At epoch) = ws
 
 unfoldable pub with_lines : List Writer → List Line → List Writer
@@ -39,3 +41,17 @@ rows_for key lines = map (row_for key) (with_lines [] lines)
 -- the texts of these rows
 abbrev pub rows_text : List ℕ → List Writer → List ℕ
 rows_text key ws = flat_map family_text (map (row_for key) ws)
+
+-- the bytes are the text of these rows, which make a list
+pub record IsListOf (bytes : List ℕ) (rows : List FamilyRow) : Type 0 where
+  pub text : bytes ≡ families_text rows
+  pub fits : FamiliesFit rows
+
+-- ---- a list less a client
+
+abbrev pub is_other : ℕ → Writer → Bool
+is_other client w = not (w.client == client)
+
+-- the text of the list that this text spells, less all rows of the client
+unfoldable pub list_without : ℕ → List ℕ → List ℕ
+list_without client text = families_text (filter (λ r. not (r.client == client)) (or_nil (families_of text)))

@@ -1,18 +1,20 @@
-//! A script's calls and closings, run through a store: what it prints, and the files that it leaves.
+//! A script's calls and closings, run through a store: what it prints, and the files that it
+//! leaves.
 #![tactic(auto)]
 
-pub mod epoch_files;
-pub mod line;
+mod epoch_files;
+mod line;
 mod printing;
 mod reading;
-pub mod replayed;
-pub mod replaying;
+mod replayed;
+mod replaying;
 mod running;
-pub mod script;
-pub mod script_refusal;
+mod script;
+mod script_refusal;
 mod signing;
 mod words;
-pub mod writer;
+mod writer;
+mod writer_list;
 mod writers;
 
 pub use cp_bytes::OutOfMemory;

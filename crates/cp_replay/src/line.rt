@@ -20,8 +20,13 @@ pub enum Line {
         block: u64,
         nonce: u64,
     },
-    /// The current epoch is closed.
+    /// The current epoch is closed, and the next one has its families list.
     Close,
+    /// The current epoch is closed, and the next one has its families list less all rows of the
+    /// client.
+    CloseWithout {
+        client: u32,
+    },
     /// The calls after it name this epoch, at least 1, until the next closing.
     At {
         epoch: u64,

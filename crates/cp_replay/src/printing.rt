@@ -10,7 +10,7 @@ use cp_core::{Answer, Booked, CallRefusal, CloseRefusal};
 use cp_statements::{Attestation, Closing, Kind};
 use itoa::Buffer;
 
-/// A label and a number.
+// A label and a number.
 pub(crate) fn put_number(out: &mut Vec<u8>, label: &str, n: u64) -> Result<(), OutOfMemory>
     ensures { OnOk result (out.new.items ≡ out.old.items ++ labelled label.now n) }
 {
@@ -19,7 +19,7 @@ pub(crate) fn put_number(out: &mut Vec<u8>, label: &str, n: u64) -> Result<(), O
     out.extend_from_slice(buffer.format(n).as_bytes())
 }
 
-/// Two of them.
+// Two of them.
 fn put_numbers(
     out: &mut Vec<u8>,
     first: &str,
@@ -27,19 +27,28 @@ fn put_numbers(
     second: &str,
     n: u64,
 ) -> Result<(), OutOfMemory>
-    ensures { OnOk result (out.new.items ≡ out.old.items ++ (labelled first.now m ++ labelled second.now n)) }
+    ensures { OnOk result (out.new.items
+        ≡ out.old.items ++ (labelled first.now m ++ labelled second.now n)) }
 {
     put_number(out, first, m)?;
     put_number(out, second, n)
 }
 
-/// A refusal of a call.
+// A refusal of a call.
 #[tactic(auto, unfolding(crate::specs::Printed::call_refused))]
 fn put_call_refused(out: &mut Vec<u8>, why: CallRefusal) -> Result<(), OutOfMemory>
     ensures { OnOk result (out.new.items ≡ out.old.items ++ call_refused why) }
 {
     match why {
         CallRefusal::WrongEpoch { current } => put_number(out, "WrongEpoch current=", current),
+        CallRefusal::NotAWriter { family, client } => put_numbers(
+            out,
+            "NotAWriter family=",
+            u64::from(family),
+            " client=",
+            u64::from(client),
+        ),
+        CallRefusal::BadSignature => out.extend_from_slice(b"BadSignature"),
         CallRefusal::NonceUsed { position } => put_number(out, "NonceUsed position=", position),
         CallRefusal::Overtaken { latest } => put_number(out, "Overtaken latest=", latest),
         CallRefusal::StaleVersion { latest } => put_number(out, "StaleVersion latest=", latest),
@@ -61,13 +70,14 @@ fn put_call_refused(out: &mut Vec<u8>, why: CallRefusal) -> Result<(), OutOfMemo
     }
 }
 
-/// A refusal of a closing.
+// A refusal of a closing.
 #[tactic(auto, unfolding(crate::specs::Printed::close_refused))]
 pub(crate) fn put_close_refused(out: &mut Vec<u8>, why: CloseRefusal) -> Result<(), OutOfMemory>
     ensures { OnOk result (out.new.items ≡ out.old.items ++ close_refused why) }
 {
     match why {
         CloseRefusal::WrongEpoch { current } => put_number(out, "WrongEpoch current=", current),
+        CloseRefusal::OtherList => out.extend_from_slice(b"OtherList"),
         CloseRefusal::ClosingsOver { sealed, limit } => put_numbers(
             out,
             "ClosingsOver sealed=",
@@ -78,10 +88,11 @@ pub(crate) fn put_close_refused(out: &mut Vec<u8>, why: CloseRefusal) -> Result<
     }
 }
 
-/// Position, version and leaf of what is booked.
+// Position, version and leaf of what is booked.
 #[tactic(auto, unfolding(crate::specs::Printed::place_of))]
 fn put_place(out: &mut Vec<u8>, label: &str, booked: &Booked) -> Result<(), OutOfMemory>
-    ensures { OnOk result (out.new.items ≡ out.old.items ++ place_of label.now booked.now.leaf (attestation_of booked.now.text)) }
+    ensures { OnOk result (out.new.items ≡ out.old.items
+        ++ place_of label.now booked.now.leaf (attestation_of booked.now.text)) }
 {
     match Attestation::read(booked.text()) {
         Ok(attestation) => {
@@ -98,7 +109,7 @@ fn put_place(out: &mut Vec<u8>, label: &str, booked: &Booked) -> Result<(), OutO
     }
 }
 
-/// What is booked of a call.
+// What is booked of a call.
 #[tactic(auto, unfolding(crate::specs::Printed::booked_line))]
 fn put_booked(out: &mut Vec<u8>, kind: Kind, booked: &Booked) -> Result<(), OutOfMemory>
     ensures { OnOk result (out.new.items ≡ out.old.items ++ booked_line kind booked.now) }
@@ -113,7 +124,7 @@ fn put_booked(out: &mut Vec<u8>, kind: Kind, booked: &Booked) -> Result<(), OutO
     }
 }
 
-/// The line of an answer to a call, without its end.
+// The line of an answer to a call, without its end.
 #[tactic(auto, unfolding(crate::specs::Printed::call_line))]
 fn put_answer(out: &mut Vec<u8>, kind: Kind, answer: &Answer) -> Result<(), OutOfMemory>
     ensures { OnOk result (out.new.items ≡ out.old.items ++ call_line kind answer.now) }
@@ -126,7 +137,7 @@ fn put_answer(out: &mut Vec<u8>, kind: Kind, answer: &Answer) -> Result<(), OutO
     }
 }
 
-/// The line of an answer to a call.
+// The line of an answer to a call.
 pub(crate) fn print_call(out: &mut Vec<u8>, kind: Kind, answer: &Answer) -> Result<(), OutOfMemory>
     ensures { OnOk result (out.new.items ≡ printed out.old.items (call_line kind answer.now)) }
 {
@@ -134,7 +145,7 @@ pub(crate) fn print_call(out: &mut Vec<u8>, kind: Kind, answer: &Answer) -> Resu
     out.extend_from_slice(b"\n")
 }
 
-/// The line of a closing that is refused.
+// The line of a closing that is refused.
 pub(crate) fn print_refused(out: &mut Vec<u8>, why: CloseRefusal) -> Result<(), OutOfMemory>
     ensures { OnOk result (out.new.items ≡ printed out.old.items (close_refused why)) }
 {
@@ -142,7 +153,7 @@ pub(crate) fn print_refused(out: &mut Vec<u8>, why: CloseRefusal) -> Result<(), 
     out.extend_from_slice(b"\n")
 }
 
-/// The numbers of a closing's text.
+// The numbers of a closing's text.
 #[tactic(auto, unfolding(crate::specs::Printed::closed_line))]
 fn put_closed(out: &mut Vec<u8>, text: &[u8]) -> Result<(), OutOfMemory>
     ensures { OnOk result (out.new.items ≡ out.old.items ++ closed_line (closing_of text.now)) }
@@ -156,15 +167,16 @@ fn put_closed(out: &mut Vec<u8>, text: &[u8]) -> Result<(), OutOfMemory>
     }
 }
 
-/// The line of a closing.
+// The line of a closing.
 pub(crate) fn print_closed(out: &mut Vec<u8>, text: &[u8]) -> Result<(), OutOfMemory>
-    ensures { OnOk result (out.new.items ≡ printed out.old.items (closed_line (closing_of text.now))) }
+    ensures { OnOk result (out.new.items
+        ≡ printed out.old.items (closed_line (closing_of text.now))) }
 {
     put_closed(out, text)?;
     out.extend_from_slice(b"\n")
 }
 
-/// The line of an epoch that is named.
+// The line of an epoch that is named.
 pub(crate) fn print_at(out: &mut Vec<u8>, epoch: u64) -> Result<(), OutOfMemory>
     ensures { OnOk result (out.new.items ≡ printed out.old.items (at_line epoch)) }
 {

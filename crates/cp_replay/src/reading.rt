@@ -1,15 +1,15 @@
 //! One line, as it is read.
 ghost use Rattle.std.specs.Prelude.{◌≡◌, ◌<◌, ◌≤◌, Some, None, MatchOption, IfSome, IfOk, length};
-ghost use Rattle.cp_replay.specs.Words.{only, with_rest};
-ghost use Rattle.cp_replay.specs.Script.{LineFits, at_of, get_of, line_at, line_of, put_of};
-ghost use Rattle.cp_replay.specs.declared.line.Line.TheVariants.{Close, Put};
+ghost use Rattle.cp_replay.specs.Words.{with_rest};
+ghost use Rattle.cp_replay.specs.Script.{LineFits, at_of, close_of, get_of, line_at, line_of, put_of, without_of};
+ghost use Rattle.cp_replay.specs.declared.line.Line.TheVariants.{Put};
 
 use crate::words::{Words, place_of};
 use crate::{Line, OutOfMemory};
 use cp_bytes::Bytes;
 use std::alloc::Global;
 
-/// What a put line says.
+// What a put line says.
 #[derive(Clone, Copy, Debug)]
 struct PutWords<'a> {
     client: u32,
@@ -19,10 +19,11 @@ struct PutWords<'a> {
     content: &'a [u8],
 }
 
-/// What the words behind `put` say.
+// What the words behind `put` say.
 #[tactic(auto, unfolding(crate::specs::Script::put_of))]
 fn put_words<'a>(words: Words<'a>) -> Option<PutWords<'a>>
-    ensures read { MatchOption result (put_of words.entry ≡ None) (λ put. put_of words.entry ≡ Some (Put put.client put.block put.nonce put.version put.content.now)) }
+    ensures read { MatchOption result (put_of words.entry ≡ None) (λ put. put_of words.entry
+        ≡ Some (Put put.client put.block put.nonce put.version put.content.now)) }
     ensures short { IfSome result (λ put. length put.content.now ≤ 65536) }
 {
     let mut words = words;
@@ -43,7 +44,7 @@ fn put_words<'a>(words: Words<'a>) -> Option<PutWords<'a>>
     })
 }
 
-/// The line of the words behind `put`.
+// The line of the words behind `put`.
 fn put_line(alloc: Global, words: Words<'_>) -> Result<Option<Line>, OutOfMemory>
     ensures read { IfOk result (λ line. line ≡ put_of words.entry) }
     ensures fits { IfOk result (λ line. IfSome line LineFits) }
@@ -61,7 +62,7 @@ fn put_line(alloc: Global, words: Words<'_>) -> Result<Option<Line>, OutOfMemory
     }))
 }
 
-/// The line of the words behind `get`.
+// The line of the words behind `get`.
 #[tactic(auto, unfolding(crate::specs::Script::get_of))]
 fn get_line(words: Words<'_>) -> Option<Line>
     ensures read { result ≡ get_of words.entry }
@@ -81,7 +82,7 @@ fn get_line(words: Words<'_>) -> Option<Line>
     })
 }
 
-/// The line of the words behind `at`.
+// The line of the words behind `at`.
 #[tactic(auto, unfolding(crate::specs::Script::at_of))]
 fn at_line(words: Words<'_>) -> Option<Line>
     ensures read { result ≡ at_of words.entry }
@@ -95,19 +96,35 @@ fn at_line(words: Words<'_>) -> Option<Line>
     Some(Line::At { epoch })
 }
 
-/// The line of the words behind `close`.
-fn close_line(words: Words<'_>) -> Option<Line>
-    ensures read { result ≡ only Close words.entry }
+// The line of the words behind `close without`.
+#[tactic(auto, unfolding(crate::specs::Script::without_of))]
+fn without_line(words: Words<'_>) -> Option<Line>
+    ensures read { result ≡ without_of words.entry }
     ensures fits { IfSome result LineFits }
 {
-    if words.is_over() {
-        Some(Line::Close)
-    } else {
-        None
+    let mut words = words;
+    let client = words.number(0, u64::from(u32::MAX))? as u32;
+    if !words.is_over() {
+        return None;
+    }
+    Some(Line::CloseWithout { client })
+}
+
+// The line of the words behind `close`.
+#[tactic(auto, unfolding(crate::specs::Script::close_of))]
+fn close_line(words: Words<'_>) -> Option<Line>
+    ensures read { result ≡ close_of words.entry }
+    ensures fits { IfSome result LineFits }
+{
+    let mut words = words;
+    match words.next() {
+        None => Some(Line::Close),
+        Some(b"without") => without_line(words),
+        Some(_) => None,
     }
 }
 
-/// The line that the bytes before its end spell; none where they spell none.
+// The line that the bytes before its end spell; none where they spell none.
 #[tactic(auto, unfolding(crate::specs::Script::line_of))]
 fn read_line(alloc: Global, text: &[u8]) -> Result<Option<Line>, OutOfMemory>
     ensures read { IfOk result (λ line. line ≡ line_of text.now) }
@@ -126,13 +143,14 @@ fn read_line(alloc: Global, text: &[u8]) -> Result<Option<Line>, OutOfMemory>
     }
 }
 
-/// Takes the line at the front, which a line feed ends. None where there is none, or where it
-/// spells no line of a script.
+// Takes the line at the front, which a line feed ends. None where there is none, or where it
+// spells no line of a script.
 #[tactic(auto, using(crate::proofs::Splits::splits), unfolding(crate::specs::Script::line_at))]
 pub(crate) fn take_line(alloc: Global, rest: &mut &[u8]) -> Result<Option<Line>, OutOfMemory>
     ensures read { IfOk result (λ line. with_rest rest.new.now line ≡ line_at rest.old.now) }
     ensures fits { IfOk result (λ line. IfSome line LineFits) }
-    ensures shorter { IfOk result (λ line. IfSome line (λ _. length rest.new.now < length rest.old.now)) }
+    ensures shorter { IfOk result (λ line.
+        IfSome line (λ _. length rest.new.now < length rest.old.now)) }
 {
     let bytes = *rest;
     let Some(end) = place_of(bytes, b'\n') else {

@@ -1,14 +1,15 @@
 //! A replay as it runs, line by line.
 ghost use Rattle.std.specs.Prelude.{◌≡◌, ◌++◌, ◌∷◌, ◌<◌, [], IfOk, OnOk};
 ghost use Rattle.lms_tree.specs.Secret.{leaves_of};
-ghost use Rattle.cp_core.specs.Machine.{Admissible};
+ghost use Rattle.cp_core.specs.Machine.{Admissible, SpellsNext, next_or};
 ghost use Rattle.cp_core.specs.declared.event.Event.TheVariants.{Call};
-ghost use Rattle.cp_replay.specs.Follows.{CanSign, Following, Follows, HasLeaves, MayWrite};
-ghost use Rattle.cp_replay.specs.Replay.{Progress, after_call, after_close, after_line, enveloped};
+ghost use Rattle.cp_replay.specs.Follows.{CanSign, Following, FollowsOn, HasLeaves, sealed_files};
+ghost use Rattle.cp_replay.specs.Replay.{after_call, after_close, after_line};
 ghost use Rattle.cp_replay.specs.Script.{LineFits};
 
 use crate::printing::{print_at, print_call, print_closed, print_refused};
 use crate::signing::{put_envelope, put_handed, signed_put};
+use crate::writer_list::WriterList;
 use crate::{EpochFiles, Line, OutOfMemory};
 use cp_bytes::{Bytes, digest};
 use cp_core::Request;
@@ -17,15 +18,15 @@ use cp_store::{SealedText, Store};
 use lms_tree::PrivateKey;
 use std::alloc::Global;
 
-/// How far a replay has come.
+// How far a replay has come.
 #[derive(Drop)]
-pub(crate) struct Running {
+pub(crate) struct ReplayRun {
     /// The running store.
     pub store: Store,
     /// SHA-256 of its key.
     pub id: [u8; 32],
-    /// The text of its families list.
-    pub families: Vec<u8>,
+    /// The families list of its epoch.
+    pub list: WriterList,
     /// The epoch that puts and gets name.
     pub named: u64,
     /// What is printed.
@@ -36,19 +37,18 @@ pub(crate) struct Running {
     pub epochs: Vec<EpochFiles>,
 }
 
-/// The files of an epoch that was sealed.
+// The files of an epoch that was sealed.
 fn epoch_files(
     alloc: Global,
     key: &PrivateKey,
-    families: &[u8],
+    families: Vec<u8>,
     sealed: SealedText,
 ) -> Result<EpochFiles, OutOfMemory>
     requires { sealed.leaf < leaves_of key.now }
-    ensures { IfOk result (λ files. files ≡ record { families = families.now; closing = enveloped key.now sealed.leaf sealed.text; table = sealed.table; log = sealed.log }) }
+    ensures { IfOk result (λ files. files ≡ sealed_files key.now families.items sealed) }
 {
     let mut closing = Vec::new(alloc);
     put_envelope(alloc, &mut closing, key, sealed.leaf, &sealed.text)?;
-    let families = Vec::from_slice(alloc, families)?;
     Ok(EpochFiles {
         families: Bytes::from_vec(families),
         closing: Bytes::from_vec(closing),
@@ -57,7 +57,31 @@ fn epoch_files(
     })
 }
 
-/// Appends the files of one more epoch.
+// The text of the list that is named for the next epoch, if one is.
+fn next_text(alloc: Global, next: &Option<WriterList>) -> Result<Option<Bytes>, OutOfMemory>
+    ensures text { IfOk result (λ text. text ≡ next.now) }
+    ensures spells { IfOk result SpellsNext }
+{
+    match next {
+        None => Ok(None),
+        Some(list) => {
+            let text = list.copy(alloc)?;
+            Ok(Some(Bytes::from_vec(text)))
+        }
+    }
+}
+
+// The list that is named for the next epoch, or else this one.
+fn next_or(next: Option<WriterList>, list: WriterList) -> WriterList
+    ensures { result ≡ next_or next list }
+{
+    match next {
+        Some(next) => next,
+        None => list,
+    }
+}
+
+// Appends the files of one more epoch.
 fn add_files(epochs: &mut Vec<EpochFiles>, files: EpochFiles) -> Result<(), OutOfMemory>
     ensures { OnOk result (epochs.new.items ≡ epochs.old.items ++ files ∷ []) }
 {
@@ -65,19 +89,20 @@ fn add_files(epochs: &mut Vec<EpochFiles>, files: EpochFiles) -> Result<(), OutO
     Ok(())
 }
 
-impl Running {
-    /// A call.
+impl ReplayRun {
+    // A call.
     fn call(
         self,
         alloc: Global,
         key: &PrivateKey,
         kind: Kind,
         request: Request,
-    ) -> Result<Running, OutOfMemory>
+    ) -> Result<ReplayRun, OutOfMemory>
         requires follows { Following self.store.store self }
         requires leaves { HasLeaves self.store.store key.now }
         requires admissible { Admissible self.store.store (Call 0 request) }
-        ensures { IfOk result (λ new. (p : Progress) → Follows self.store.store self p → Follows self.store.store new (after_call key.now self.store.store p kind request)) }
+        ensures { IfOk result (λ new. FollowsOn self new
+            (λ p. after_call key.now self.store.store p kind request)) }
     {
         let mut run = self;
         let answer = run.store.call(alloc, 0, request)?;
@@ -86,29 +111,37 @@ impl Running {
         Ok(run)
     }
 
-    /// A closing.
-    fn close(self, alloc: Global, key: &PrivateKey) -> Result<Running, OutOfMemory>
+    // A closing, with this families list for the next epoch, or with the epoch's own.
+    fn close(
+        self,
+        alloc: Global,
+        key: &PrivateKey,
+        next: Option<WriterList>,
+    ) -> Result<ReplayRun, OutOfMemory>
         requires follows { Following self.store.store self }
         requires leaves { HasLeaves self.store.store key.now }
-        ensures { IfOk result (λ new. (p : Progress) → Follows self.store.store self p → Follows self.store.store new (after_close key.now self.store.store p)) }
+        ensures { IfOk result (λ new. FollowsOn self new
+            (λ p. after_close key.now self.store.store p next)) }
     {
-        let Running {
+        let families = self.list.copy(alloc)?;
+        let next_families = next_text(alloc, &next)?;
+        let ReplayRun {
             store,
             id,
-            families,
+            list,
             named,
             mut text,
             handins,
             mut epochs,
         } = self;
-        let (store, done) = store.close(alloc)?;
+        let (store, done) = store.close(alloc, next_families)?;
         match done {
             Err(why) => {
                 print_refused(&mut text, why)?;
-                Ok(Running {
+                Ok(ReplayRun {
                     store,
                     id,
-                    families,
+                    list,
                     named,
                     text,
                     handins,
@@ -117,13 +150,13 @@ impl Running {
             }
             Ok(sealed) => {
                 print_closed(&mut text, &sealed.text)?;
-                let files = epoch_files(alloc, key, families.as_slice(), sealed)?;
+                let files = epoch_files(alloc, key, families, sealed)?;
                 add_files(&mut epochs, files)?;
                 let named = store.epoch();
-                Ok(Running {
+                Ok(ReplayRun {
                     store,
                     id,
-                    families,
+                    list: next_or(next, list),
                     named,
                     text,
                     handins,
@@ -133,7 +166,7 @@ impl Running {
         }
     }
 
-    /// The line with this number, from 0.
+    // The line with this number, from 0.
     pub(crate) fn line(
         self,
         alloc: Global,
@@ -141,13 +174,13 @@ impl Running {
         writer: &PrivateKey,
         number: u32,
         line: &Line,
-    ) -> Result<Running, OutOfMemory>
+    ) -> Result<ReplayRun, OutOfMemory>
         requires follows { Following self.store.store self }
         requires leaves { HasLeaves self.store.store key.now }
         requires signs { CanSign writer.now number }
-        requires writes { MayWrite self.store.store writer.now line.now }
         requires fits { LineFits line.now }
-        ensures { IfOk result (λ new. (p : Progress) → Follows self.store.store self p → Follows self.store.store new (after_line key.now writer.now self.store.store number p line.now)) }
+        ensures { IfOk result (λ new. FollowsOn self new
+            (λ p. after_line key.now writer.now self.store.store number p line.now)) }
     {
         match line {
             Line::Put {
@@ -189,7 +222,12 @@ impl Running {
                 Ok(run)
             }
             Line::Close => {
-                let run = self.close(alloc, key)?;
+                let run = self.close(alloc, key, None)?;
+                Ok(run)
+            }
+            Line::CloseWithout { client } => {
+                let next = self.list.without(alloc, *client)?;
+                let run = self.close(alloc, key, Some(next))?;
                 Ok(run)
             }
             Line::At { epoch } => {

@@ -8,10 +8,10 @@ use crate::{Line, OutOfMemory, ScriptRefusal};
 use std::alloc::Global;
 use std::marker::Model;
 
-/// The most lines of a script.
+// The most lines of a script.
 const MOST_LINES: usize = 1000;
 
-/// Appends a line.
+// Appends a line.
 fn add(lines: &mut Vec<Line>, line: Line) -> Result<(), OutOfMemory>
     ensures { OnOk result (lines.new.items ≡ lines.old.items ++ line ∷ []) }
 {
@@ -38,12 +38,12 @@ impl Model for Script {
 }
 
 impl Script {
-    /// The script that all of the bytes spell: at most 1,000 lines, each ended by a line feed, its words
-    /// parted by one space (this project's own):
-    /// `put CLIENT BLOCK NONCE VERSION CONTENT`, `get CLIENT BLOCK NONCE`, `close`, `at EPOCH`. Numbers
-    /// are decimal in the range of their field (a client has four bytes, the others eight, and an epoch
-    /// is at least 1), without a sign and without leading zeros. CONTENT is 1 to 65,536 printable ASCII
-    /// characters without space.
+    /// The script that all of the bytes spell: at most 1,000 lines, each ended by a line feed, its
+    /// words parted by one space (this project's own):
+    /// `put CLIENT BLOCK NONCE VERSION CONTENT`, `get CLIENT BLOCK NONCE`, `close`,
+    /// `close without CLIENT`, `at EPOCH`. Numbers are decimal in the range of their field (a client
+    /// has four bytes, the others eight, and an epoch is at least 1), without a sign and without
+    /// leading zeros. CONTENT is 1 to 65,536 printable ASCII characters without space.
     ///
     /// `Malformed` names the offset of the first byte of the first line that is none of these; a
     /// thousand-and-first line is such a line, as are bytes behind the last line feed.

@@ -12,7 +12,7 @@ use cp_statements::PutRequest;
 use lms_tree::PrivateKey;
 use std::alloc::Global;
 
-/// The signature of a text by a leaf.
+// The signature of a text by a leaf.
 fn signed(alloc: Global, key: &PrivateKey, leaf: u32, text: &[u8]) -> Result<Vec<u8>, OutOfMemory>
     requires { leaf < leaves_of key.now }
     ensures bytes { IfOk result (λ bytes. bytes.items ≡ signature key.now leaf text.now) }
@@ -23,7 +23,7 @@ fn signed(alloc: Global, key: &PrivateKey, leaf: u32, text: &[u8]) -> Result<Vec
     Ok(bytes)
 }
 
-/// Appends a length of four bytes and the bytes.
+// Appends a length of four bytes and the bytes.
 fn put_part(out: &mut Vec<u8>, bytes: &[u8]) -> Result<(), OutOfMemory>
     requires { length bytes.now < 2 ^ 32 }
     ensures { OnOk result (out.new.items ≡ out.old.items ++ part bytes.now) }
@@ -33,7 +33,7 @@ fn put_part(out: &mut Vec<u8>, bytes: &[u8]) -> Result<(), OutOfMemory>
     out.extend_from_slice(bytes)
 }
 
-/// Appends the envelope of a text that a leaf signs.
+// Appends the envelope of a text that a leaf signs.
 #[tactic(auto, unfolding(cp_statements::specs::Envelope::envelope_text))]
 pub(crate) fn put_envelope(
     alloc: Global,
@@ -51,7 +51,7 @@ pub(crate) fn put_envelope(
     put_part(out, signature.as_slice())
 }
 
-/// Appends the envelope of the attestation that is answered, if one is.
+// Appends the envelope of the attestation that is answered, if one is.
 pub(crate) fn put_handed(
     alloc: Global,
     out: &mut Vec<u8>,
@@ -67,7 +67,7 @@ pub(crate) fn put_handed(
     }
 }
 
-/// The put with its content, signed with a leaf of the writer's key.
+// The put with its content, signed with a leaf of the writer's key.
 #[tactic(auto, unfolding(crate::specs::Replay::put_signed))]
 pub(crate) fn signed_put(
     alloc: Global,

@@ -10,14 +10,14 @@ pub struct Writer {
 }
 
 impl Writer {
-    /// Whether it comes before the other, by family and then by client.
+    // Whether it comes before the other, by family and then by client.
     pub(crate) fn is_before(self, other: Writer) -> bool
         ensures { result ≡ is_before self other }
     {
         self.family < other.family || self.family == other.family && self.client < other.client
     }
 
-    /// Whether both are one.
+    // Whether both are one.
     pub(crate) fn is_same(self, other: Writer) -> bool
         ensures { result ≡ is_same self other }
     {

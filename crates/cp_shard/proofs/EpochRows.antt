@@ -46,8 +46,8 @@ rows_push items r e n reads same = ap (filter (is_of_epoch n)) (rows_row items r
 rows_later : (items : List Item) (r : RowItem) (e : Entry) (n : ℕ) → entry_of r.entry ≡ Ok e → (e.epoch ≡ n → ⊥) → epoch_rows (items ++ row_item r ∷ []) n ≡ epoch_rows items n
 rows_later items r e n reads other = ap (filter (is_of_epoch n)) (rows_row items r) ∙ filter-append (is_of_epoch n) (rows_in items) (r ∷ []) ∙ ap (λ l. epoch_rows items n ++ l) (of_other r e n reads other) ∙ append-nil _
 
-pub rows_freeze : (items : List Item) (m n : ℕ) → epoch_rows (items ++ Frozen m ∷ []) n ≡ epoch_rows items n
-rows_freeze items m n = ap (filter (is_of_epoch n)) (rows_frozen items m)
+rows_freeze : (items : List Item) (m : ℕ) (next : List ℕ) (n : ℕ) → epoch_rows (items ++ Frozen m next ∷ []) n ≡ epoch_rows items n
+rows_freeze items m next n = ap (filter (is_of_epoch n)) (rows_frozen items m next)
 
 -- two filters come in either order
 swapped : (p q : RowItem → Bool) (rs : List RowItem) → filter q (filter p rs) ≡ filter p (filter q rs)
@@ -63,9 +63,6 @@ swapped p q (r ∷ rs) = go (p r) (q r) refl refl (swapped p q rs)
 in_rows : (items : List Item) (b n : ℕ) → in_epoch items b n ≡ filter (is_of_block b) (epoch_rows items n)
 unfolding in_epoch rows_of
 in_rows items b n = swapped (is_of_block b) (is_of_epoch n) (rows_in items)
-
-pub same_rows : (items front : List Item) (b n : ℕ) → epoch_rows items n ≡ epoch_rows front n → in_epoch items b n ≡ in_epoch front b n
-same_rows items front b n same = in_rows items b n ∙ ap (filter (is_of_block b)) same ∙ sym (in_rows front b n)
 
 none_passes : (p : RowItem → Bool) (rs : List RowItem) → list_any p rs ≡ false → filter p rs ≡ []
 none_passes p [] none = refl
@@ -175,43 +172,10 @@ listed_blocks items n blocks up holds =
 
 -- ---- what comes behind an epoch
 
-rows_stay : (k n : ℕ) (front back : List Item) → Each (IsItemOf k) (front ++ back) → n ≤ freezes front → epoch_rows (front ++ back) n ≡ epoch_rows front n
-rows_stay k n front back each le = snoc (λ xs. Each (IsItemOf k) (front ++ xs) → epoch_rows (front ++ xs) n ≡ epoch_rows front n) (λ each. ap (λ xs. epoch_rows xs n) (append-nil front)) step back each
-  where
-    step : (xs : List Item) (x : Item) → (Each (IsItemOf k) (front ++ xs) → epoch_rows (front ++ xs) n ≡ epoch_rows front n) → Each (IsItemOf k) (front ++ (xs ++ x ∷ [])) → epoch_rows (front ++ (xs ++ x ∷ [])) n ≡ epoch_rows front n
-    step xs x so_far each =
-        let regroup : (front ++ xs) ++ x ∷ [] ≡ front ++ (xs ++ x ∷ []) = append_assoc front xs (x ∷ []) in
-        let here : Each (IsItemOf k) ((front ++ xs) ++ x ∷ []) = subst (λ l. Each (IsItemOf k) l) (sym regroup) each in
-        ap (λ l. epoch_rows l n) (sym regroup) ∙ one (front ++ xs) x (omega (arith, le, freezes-append front xs)) (each_last (IsItemOf k) (front ++ xs) x here) ∙ so_far (each_front (IsItemOf k) (front ++ xs) (x ∷ []) here)
-      where
-        one : (xs : List Item) (x : Item) → n ≤ freezes xs → IsItemOf k xs x → epoch_rows (xs ++ x ∷ []) n ≡ epoch_rows xs n
-        one xs (Row pass leaf pages entry) le f =
-            let r : RowItem = record { pass = pass; leaf = leaf; pages = pages; entry = entry } in
-            rows_later xs r f.entry n (spells_reads r.entry f.entry f.spells) (λ same. omega (arith, same, f.epoch, le))
-        one xs (Frozen m) le f = rows_freeze xs m n
-
-same_part : (items front : List Item) (n : ℕ) → epoch_rows items n ≡ epoch_rows front n → ((b : ℕ) → up_to items b n ≡ up_to front b n) → map (frozen_block items n) (blocks_in (rows_in items) n) ≡ map (frozen_block front n) (blocks_in (rows_in front) n)
-same_part items front n rows same = ap (λ rs. map (frozen_block items n) (blocks_of rs)) rows ∙ each (blocks_in (rows_in front) n)
-  where
-    one : (b : ℕ) → frozen_block items n b ≡ frozen_block front n b
-    one b =
-        ap (λ rs. (let g : Gained = record { block = b; after = tip_from (tip_after b (entries rs)); entries = entries (in_epoch items b n) } in g)) (same b)
-        ∙ ap (λ rs. (let g : Gained = record { block = b; after = tip_from (cut front b n); entries = entries rs } in g)) (same_rows items front b n rows)
-
-    each : (bs : List ℕ) → map (frozen_block items n) bs ≡ map (frozen_block front n) bs
-    each [] = refl
-    each (b ∷ bs) = ap (λ x. x ∷ map (frozen_block items n) bs) (one b) ∙ ap (λ l. frozen_block front n b ∷ l) (each bs)
-
-pub part_stays : (k n : ℕ) (front back : List Item) → Each (IsItemOf k) (front ++ back) → n ≤ freezes front → map (frozen_block (front ++ back) n) (blocks_in (rows_in (front ++ back)) n) ≡ map (frozen_block front n) (blocks_in (rows_in front) n)
-part_stays k n front back each le = same_part (front ++ back) front n (rows_stay k n front back each le) (λ b. up_to_stays k front back b n each le)
-
-pub part_frozen : (items : List Item) (m n : ℕ) → map (frozen_block (items ++ Frozen m ∷ []) n) (blocks_in (rows_in (items ++ Frozen m ∷ [])) n) ≡ map (frozen_block items n) (blocks_in (rows_in items) n)
-part_frozen items m n = same_part (items ++ Frozen m ∷ []) items n (rows_freeze items m n) (λ b. up_to_freeze items m b n)
-
 -- nothing is of the epoch that a freeze has just begun
-pub none_gained : (k n : ℕ) (items : List Item) (m b : ℕ) → Each (IsItemOf k) items → n ≡ freezes items + 2 → gained_at (items ++ Frozen m ∷ []) n b ≡ None
-none_gained k n items m b each next =
-    ap (λ rs. cond (list_any (is_of_block b) rs) (Some (frozen_block (items ++ Frozen m ∷ []) n b)) None) (rows_freeze items m n ∙ none_yet items each next)
+pub none_gained : (k n : ℕ) (items : List Item) (m : ℕ) (list : List ℕ) (b : ℕ) → Each (IsItemOf k) items → n ≡ freezes items + 2 → gained_at (items ++ Frozen m list ∷ []) n b ≡ None
+none_gained k n items m list b each next =
+    ap (λ rs. cond (list_any (is_of_block b) rs) (Some (frozen_block (items ++ Frozen m list ∷ []) n b)) None) (rows_freeze items m list n ∙ none_yet items each next)
   where
     none_yet : (xs : List Item) → Each (IsItemOf k) xs → n ≡ freezes xs + 2 → epoch_rows xs n ≡ []
     none_yet xs each next = snoc (λ xs. Each (IsItemOf k) xs → freezes xs + 1 < n → epoch_rows xs n ≡ []) (λ each lt. refl) step xs each (omega (arith, next))
@@ -222,4 +186,4 @@ none_gained k n items m b each next =
             let f : IsRowOf k xs r = each_last (IsItemOf k) xs (row_item r) each in
             rows_later xs r f.entry n (spells_reads r.entry f.entry f.spells) (λ same. omega (arith, same, f.epoch, lt, freezes_row xs r))
             ∙ so_far (each_front (IsItemOf k) xs (row_item r ∷ []) each) (omega (arith, lt, freezes_row xs r))
-        step xs (Frozen j) so_far each lt = rows_freeze xs j n ∙ so_far (each_front (IsItemOf k) xs (Frozen j ∷ []) each) (omega (arith, lt, freezes_more xs j))
+        step xs (Frozen j list) so_far each lt = rows_freeze xs j list n ∙ so_far (each_front (IsItemOf k) xs (Frozen j list ∷ []) each) (omega (arith, lt, freezes_more xs j list))

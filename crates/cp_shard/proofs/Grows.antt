@@ -90,11 +90,11 @@ found_row items r e k reads now =
     ]
 
 -- after a freeze no call is of the epoch that is now
-pub found_frozen : (index : ℕ) (items : List Item) (m : ℕ) (k : Key) → Each (IsItemOf index) items → found_at (items ++ Frozen m ∷ []) k ≡ None
-found_frozen index items m k each =
+pub found_frozen : (index : ℕ) (items : List Item) (m : ℕ) (next : List ℕ) (k : Key) → Each (IsItemOf index) items → found_at (items ++ Frozen m next ∷ []) k ≡ None
+found_frozen index items m next k each =
     let p : RowItem → Bool = λ x. is_call k.client k.nonce x.entry in
-    let n : ℕ = epoch_now (items ++ Frozen m ∷ []) in
-    ap (find p) (in_freeze items m k.block n ∙ (ordered index items k.block each).none n (omega (arith, freezes_more items m)))
+    let n : ℕ = epoch_now (items ++ Frozen m next ∷ []) in
+    ap (find p) (in_freeze items m next k.block n ∙ (ordered index items k.block each).none n (omega (arith, freezes_more items m next)))
 
 -- ---- places
 
@@ -224,5 +224,5 @@ tip_row store items r e a b spelled reads fits position signed get =
       | inr other ↦ ap (λ rs. tip_after b (entries rs)) (row_other items r e b reads other) ∙ ap (λ t. cond t (tip_by a) (tip_of items b)) (sym (ne_eqb e.block b other))
     ]
 
-pub tip_frozen : (items : List Item) (m b : ℕ) → tip_of (items ++ Frozen m ∷ []) b ≡ tip_of items b
-tip_frozen items m b = ap (λ rs. tip_after b (entries rs)) (freeze_rows items m b)
+pub tip_frozen : (items : List Item) (m : ℕ) (next : List ℕ) (b : ℕ) → tip_of (items ++ Frozen m next ∷ []) b ≡ tip_of items b
+tip_frozen items m next b = ap (λ rs. tip_after b (entries rs)) (freeze_rows items m next b)

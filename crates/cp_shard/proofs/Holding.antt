@@ -26,8 +26,8 @@ use Rattle.cp_shard.proofs.PutPages.{any_push, last_push, puts_read, taken_get}
 pub rows_row : (items : List Item) (r : RowItem) → rows_in (items ++ row_item r ∷ []) ≡ rows_in items ++ r ∷ []
 rows_row items r = filter_map-append as_row items (row_item r ∷ [])
 
-pub rows_frozen : (items : List Item) (m : ℕ) → rows_in (items ++ Frozen m ∷ []) ≡ rows_in items
-rows_frozen items m = filter_map-append as_row items (Frozen m ∷ []) ∙ append-nil (rows_in items)
+pub rows_frozen : (items : List Item) (m : ℕ) (next : List ℕ) → rows_in (items ++ Frozen m next ∷ []) ≡ rows_in items
+rows_frozen items m next = filter_map-append as_row items (Frozen m next ∷ []) ∙ append-nil (rows_in items)
 
 -- ---- contents as they are seen
 
@@ -38,8 +38,8 @@ same_contents (b ∷ bs) f g same = ap (λ (c : List ℕ). record { block = b; b
 pub view_same : (items : List Item) (f g : ℕ → List ℕ) → ((b : ℕ) → f b ≡ g b) → contents_of (put_blocks items) f ≡ contents_of (put_blocks items) g
 view_same items f g same = same_contents (put_blocks items) f g same
 
-pub view_frozen : (items : List Item) (m : ℕ) (f : ℕ → List ℕ) → contents_of (put_blocks (items ++ Frozen m ∷ [])) f ≡ contents_of (put_blocks items) f
-view_frozen items m f = ap (λ (rows : List RowItem). contents_of (filter_map puts rows) f) (rows_frozen items m)
+pub view_frozen : (items : List Item) (m : ℕ) (next : List ℕ) (f : ℕ → List ℕ) → contents_of (put_blocks (items ++ Frozen m next ∷ [])) f ≡ contents_of (put_blocks items) f
+view_frozen items m next f = ap (λ (rows : List RowItem). contents_of (filter_map puts rows) f) (rows_frozen items m next)
 
 among : ℕ → List ℕ → Bool
 among b blocks = list_any (λ c. eqb c b) blocks
@@ -119,15 +119,15 @@ has_none pages runs pool len taken none =
       hashed = λ b. record { at_first = λ e. refl; hashed = λ some. absurd (never_put b some) };
     })
 
-pub has_frozen : (items : List Item) (m pages : ℕ) (runs : ℕ → Option Extent) (pool : Pages) → HasContents items pages runs pool → HasContents (items ++ Frozen m ∷ []) pages runs pool
-has_frozen items m pages runs pool h = record {
+pub has_frozen : (items : List Item) (m : ℕ) (next : List ℕ) (pages : ℕ) (runs : ℕ → Option Extent) (pool : Pages) → HasContents items pages runs pool → HasContents (items ++ Frozen m next ∷ []) pages runs pool
+has_frozen items m next pages runs pool h = record {
   len = h.len;
   live = h.live;
   apart = h.apart;
-  taken = h.taken ∙ ap pages_taken (sym (rows_frozen items m));
-  counted = λ b. ap (λ rows. last_pages rows b) (rows_frozen items m) ∙ h.counted b;
-  unwritten = λ b e. h.unwritten b (ap (list_any (puts_block b)) (sym (rows_frozen items m)) ∙ e);
-  hashed = λ b. subst (λ (p : Put). IsContentOf p (content_in pool (runs b))) (sym (latest_freeze items m b)) (h.hashed b);
+  taken = h.taken ∙ ap pages_taken (sym (rows_frozen items m next));
+  counted = λ b. ap (λ rows. last_pages rows b) (rows_frozen items m next) ∙ h.counted b;
+  unwritten = λ b e. h.unwritten b (ap (list_any (puts_block b)) (sym (rows_frozen items m next)) ∙ e);
+  hashed = λ b. subst (λ (p : Put). IsContentOf p (content_in pool (runs b))) (sym (latest_freeze items m next b)) (h.hashed b);
 }
 
 -- ---- a get

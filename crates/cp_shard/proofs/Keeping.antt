@@ -15,6 +15,7 @@ use Rattle.cp_core.specs.Life.{RowItem, row_item, rows_of, in_epoch, freezes, ti
 use Rattle.cp_core.specs.Calls.{epoch_now, head_of, attested}
 use Rattle.cp_core.specs.Frozen.{tip_from}
 use Rattle.cp_core.specs.Honest.{IsItemOf, IsRowOf}
+use Rattle.cp_core.specs.Store.{SpellsFamilies}
 use Rattle.cp_core.specs.declared.item.Item.{Item}
 use Rattle.cp_core.specs.declared.item.Item.TheVariants.{Frozen}
 use Rattle.cp_core.proofs.RowLemmas.{spells_reads}
@@ -27,7 +28,7 @@ use Rattle.cp_shard.specs.declared.row_tip.RowTip.{RowTip}
 use Rattle.cp_shard.specs.declared.standing.Standing.{Standing}
 use Rattle.cp_shard.specs.Booked.{tip_by, key_by}
 use Rattle.cp_shard.specs.Contents.{HasContents}
-use Rattle.cp_shard.specs.Kept.{tip_of, Keeps, IsNext, key_of}
+use Rattle.cp_shard.specs.Kept.{tip_of, ShardKeeps, IsNext, key_of}
 use Rattle.cp_shard.specs.Gathered.{block_in, row_block, row_tip}
 use Rattle.cp_shard.specs.Places.{key_cmp, found_at, IsPlace}
 use Rattle.cp_shard.specs.Standings.{tip_at, run_at, content_in}
@@ -50,7 +51,7 @@ unfolding in_epoch rows_of
 nothing_found k = refl
 
 pub keeps_none : (store : List ℕ) (index pages closings room : ℕ) (standings : BTreeMap ℕ Standing) (places : BTreeMap Key ℕ) (pool : Pages) → standings.entries ≡ [] → places.entries ≡ [] → pool ≡ replicate pages None → closings ≤ room
-    → Keeps store index pages closings 1 room [] [] standings places pool
+    → ShardKeeps store index pages closings 1 room [] [] standings places pool
 keeps_none store index pages closings room standings places pool no_standing no_place blank fits = record {
   each = each_nil (IsItemOf index);
   epoch_is = refl;
@@ -63,9 +64,9 @@ keeps_none store index pages closings room standings places pool no_standing no_
 
 -- ---- nothing is appended
 
-pub keeps_same : (store : List ℕ) (index pages closings epoch room more : ℕ) (items : List Item) (calls : List Call) (standings now : BTreeMap ℕ Standing) (places moved : BTreeMap Key ℕ) (pool : Pages) → Keeps store index pages closings epoch room items calls standings places pool
+pub keeps_same : (store : List ℕ) (index pages closings epoch room more : ℕ) (items : List Item) (calls : List Call) (standings now : BTreeMap ℕ Standing) (places moved : BTreeMap Key ℕ) (pool : Pages) → ShardKeeps store index pages closings epoch room items calls standings places pool
     → ((b : ℕ) → tip_at now b ≡ tip_at standings b) → ((b : ℕ) → run_at now b ≡ run_at standings b) → ((k : Key) → get key_cmp moved k ≡ get key_cmp places k) → room ≤ more
-    → Keeps store index pages closings epoch more items calls now moved pool
+    → ShardKeeps store index pages closings epoch more items calls now moved pool
 keeps_same store index pages closings epoch room more items calls standings now places moved pool s tips runs same wider = record {
   each = s.each;
   epoch_is = s.epoch_is;
@@ -78,22 +79,22 @@ keeps_same store index pages closings epoch room more items calls standings now 
 
 -- ---- a freeze
 
-pub keeps_frozen : (store : List ℕ) (index pages closings epoch room : ℕ) (items : List Item) (calls : List Call) (standings : BTreeMap ℕ Standing) (places cleared : BTreeMap Key ℕ) (pool : Pages) → Keeps store index pages closings epoch room items calls standings places pool
-    → cleared.entries ≡ [] → epoch_now items ≤ closings → Keeps store index pages closings (epoch + 1) room (items ++ Frozen epoch ∷ []) [] standings cleared pool
-keeps_frozen store index pages closings epoch room items calls standings places cleared pool s none few = record {
-  each = each_push (IsItemOf index) items (Frozen epoch) s.each s.epoch_is;
-  epoch_is = omega (arith, s.epoch_is, freezes_more items epoch);
-  tips_are = λ b. s.tips_are b ∙ sym (tip_frozen items epoch b);
-  places_are = λ k. rw none (found_frozen index items epoch k s.each);
-  has_contents = has_frozen items epoch pages (run_at standings) pool s.has_contents;
-  froze = omega (arith, few, freezes_more items epoch);
-  has_room = omega (arith, s.has_room, few, freezes_more items epoch, length-append items (Frozen epoch ∷ []));
+pub keeps_frozen : (store : List ℕ) (index pages closings epoch room : ℕ) (items : List Item) (calls : List Call) (standings : BTreeMap ℕ Standing) (places cleared : BTreeMap Key ℕ) (pool : Pages) → ShardKeeps store index pages closings epoch room items calls standings places pool
+    → cleared.entries ≡ [] → epoch_now items ≤ closings → (next : List ℕ) → SpellsFamilies next → ShardKeeps store index pages closings (epoch + 1) room (items ++ Frozen epoch next ∷ []) [] standings cleared pool
+keeps_frozen store index pages closings epoch room items calls standings places cleared pool s none few next spells = record {
+  each = each_push (IsItemOf index) items (Frozen epoch next) s.each (s.epoch_is, spells);
+  epoch_is = omega (arith, s.epoch_is, freezes_more items epoch next);
+  tips_are = λ b. s.tips_are b ∙ sym (tip_frozen items epoch next b);
+  places_are = λ k. rw none (found_frozen index items epoch next k s.each);
+  has_contents = has_frozen items epoch next pages (run_at standings) pool s.has_contents;
+  froze = omega (arith, few, freezes_more items epoch next);
+  has_room = omega (arith, s.has_room, few, freezes_more items epoch next, length-append items (Frozen epoch next ∷ []));
 }
 
 -- ---- a row
 
 module _ (store : List ℕ) (index pages closings epoch room : ℕ) (items : List Item) (calls : List Call) (standings : BTreeMap ℕ Standing) (places : BTreeMap Key ℕ) (pool : Pages)
-    (s : Keeps store index pages closings epoch room items calls standings places pool)
+    (s : ShardKeeps store index pages closings epoch room items calls standings places pool)
     (r : RowItem) (a : Attestation) (next : IsNext store index items a r.entry) where
   reads : entry_of r.entry ≡ Ok next.entry
   reads = spells_reads r.entry next.entry next.spells
@@ -121,7 +122,7 @@ module _ (store : List ℕ) (index pages closings epoch room : ℕ) (items : Lis
   pub keeps_row : (more : ℕ) (c : Call) (now : BTreeMap ℕ Standing) (moved : BTreeMap Key ℕ) (after : Pages) → c.leaf ≡ r.leaf → attestation_view c.attestation ≡ a
       → ((b : ℕ) → tip_at now b ≡ cond (eqb a.block b) (tip_by a) (tip_at standings b)) → ((k : Key) → get key_cmp moved k ≡ cond (is_at (key_cmp (key_by a)) k) (Some (length calls)) (get key_cmp places k))
       → length items + (closings - freezes items + 1) ≤ more → HasContents (items ++ row_item r ∷ []) pages (run_at now) after
-      → Keeps store index pages closings epoch more (items ++ row_item r ∷ []) (calls ++ c ∷ []) now moved after
+      → ShardKeeps store index pages closings epoch more (items ++ row_item r ∷ []) (calls ++ c ∷ []) now moved after
   keeps_row more c now moved after leaf same tips places fits contents = record {
     each = each_push (IsItemOf index) items (row_item r) s.each is_row;
     epoch_is = omega (arith, s.epoch_is, freezes_row items r);

@@ -5,6 +5,7 @@ pub mod PutPages
 pub mod Holding
 pub mod Putting
 pub mod Keeping
+pub mod Leaves
 pub mod Views
 pub mod NextRow
 pub mod StepLaws
@@ -13,3 +14,5 @@ pub mod Whole
 pub mod Ascending
 pub mod EpochRows
 pub mod Spans
+pub mod ShortRows
+pub mod Attesting

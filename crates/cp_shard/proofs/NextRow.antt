@@ -49,7 +49,7 @@ rows_few (Row pass leaf pages entry ∷ items) b = go (is_of_block b (record { p
     go : (t : Bool) → length (rows_of items b) ≤ length items → length (cond t (record { pass = pass; leaf = leaf; pages = pages; entry = entry } ∷ rows_of items b) (rows_of items b)) ≤ suc (length items)
     go true h = omega (arith, h)
     go false h = omega (arith, h)
-rows_few (Frozen n ∷ items) b = omega (arith, rows_few items b)
+rows_few (Frozen n next ∷ items) b = omega (arith, rows_few items b)
 
 pub next_few : (store : List ℕ) (index : ℕ) (items : List Item) (a : Attestation) (text : List ℕ) → IsNext store index items a text → a.position ≤ length items
 next_few store index items a text next =
@@ -68,15 +68,15 @@ get_blocks : (items : List Item) (r : RowItem) → puts r ≡ None → put_block
 get_blocks items r none =
     ap (filter_map puts) (rows_row items r) ∙ filter_map-append puts (rows_in items) (r ∷ []) ∙ ap (λ o. put_blocks items ++ cons_option o []) none ∙ append-nil (put_blocks items)
 
-pub get_view : (store : List ℕ) (index pages closings : ℕ) (items now : List Item) (f g : ℕ → List ℕ) (r : RowItem) (a : Attestation) → IsNext store index items a r.entry → a.kind ≡ 2 → now ≡ items ++ row_item r ∷ [] → ((b : ℕ) → g b ≡ f b)
-    → ◌≡◌ {A = ShardModel} (record { store = store; index = index; pages = pages; closings = closings; items = now; contents = contents_of (put_blocks now) g })
-    (record { store = store; index = index; pages = pages; closings = closings; items = items ++ row_item r ∷ []; contents = contents_of (put_blocks items) f })
-get_view store index pages closings items now f g r a next get is same =
+pub get_view : (store : List ℕ) (index pages closings : ℕ) (first : List ℕ) (items now : List Item) (f g : ℕ → List ℕ) (r : RowItem) (a : Attestation) → IsNext store index items a r.entry → a.kind ≡ 2 → now ≡ items ++ row_item r ∷ [] → ((b : ℕ) → g b ≡ f b)
+    → ◌≡◌ {A = ShardModel} (record { store = store; index = index; pages = pages; closings = closings; first = first; items = now; contents = contents_of (put_blocks now) g })
+    (record { store = store; index = index; pages = pages; closings = closings; first = first; items = items ++ row_item r ∷ []; contents = contents_of (put_blocks items) f })
+get_view store index pages closings first items now f g r a next get is same =
     let kind : a.kind ≡ next.entry.kind = kind_of store (head_of items next.entry.block) next.entry a next.attestation in
     let other : eqb next.entry.kind 1 ≡ false = ap (λ n. eqb n 1) (sym kind ∙ get) in
     let none : puts r ≡ None = puts_nothing (entry_of r.entry) next.entry (spells_reads r.entry next.entry next.spells) other in
-    ap (λ (xs : List Item). record { store = store; index = index; pages = pages; closings = closings; items = xs; contents = contents_of (put_blocks xs) g }) is
-    ∙ ap (λ (cs : List Content). record { store = store; index = index; pages = pages; closings = closings; items = items ++ row_item r ∷ []; contents = cs })
+    ap (λ (xs : List Item). record { store = store; index = index; pages = pages; closings = closings; first = first; items = xs; contents = contents_of (put_blocks xs) g }) is
+    ∙ ap (λ (cs : List Content). record { store = store; index = index; pages = pages; closings = closings; first = first; items = items ++ row_item r ∷ []; contents = cs })
     (view_same (items ++ row_item r ∷ []) g f same ∙ ap (λ bs. contents_of bs f) (get_blocks items r none))
 
 -- after a put each block reads as before, and the put's as its content

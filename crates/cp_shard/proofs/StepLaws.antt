@@ -14,13 +14,14 @@ use Rattle.cp_statements.specs.View.{kind_byte, attestation_view, put_request_vi
 use Rattle.cp_statements.specs.declared.put_request.PutRequest.{PutRequest}
 use Rattle.cp_statements.specs.declared.get_request.GetRequest.{GetRequest}
 use Rattle.cp_tips.specs.Tip.{fresh}
+use Rattle.cp_families.specs.Checking.{SignedPut, IsSigned}
 use Rattle.cp_chain.specs.Legal.{latest}
 use Rattle.cp_core.specs.Booking.{Booking}
 use Rattle.cp_core.specs.Life.{RowItem, tip_after}
 use Rattle.cp_core.specs.Requests.{epoch_of, block_of, client_of, nonce_of, pages_of, request_text}
-use Rattle.cp_core.specs.Calls.{Outcome, epoch_now, latest_of, found, is_stale, again_entry, is_overtaken, asked_text, text_again, attested, content_for, content_at, pages_free, shard_step, with_leaf, at_found, first_refused, settled, unless_settled}
+use Rattle.cp_core.specs.Calls.{Effect, epoch_now, latest_of, writers_key, unsigned_by, unwritten, or_else, found, is_stale, again_entry, is_overtaken, asked_text, text_again, attested, content_for, content_at, pages_free, shard_step, with_leaf, at_found, first_refused, settled, unless_settled}
 use Rattle.cp_core.specs.declared.content.Content.{Content}
-use Rattle.cp_core.specs.Calls.Outcome.{Same}
+use Rattle.cp_core.specs.Calls.Effect.{Same}
 use Rattle.cp_core.specs.declared.item.Item.{Item}
 use Rattle.cp_core.specs.declared.request.Request.{Request}
 use Rattle.cp_core.specs.declared.request.Request.TheVariants as ask
@@ -33,19 +34,20 @@ use Rattle.cp_shard.specs.declared.call.Call.{Call}
 use Rattle.cp_shard.specs.Asked.{asked_by}
 use Rattle.cp_shard.specs.Kept.{tip_of}
 use Rattle.cp_shard.specs.Places.{found_at, head_before, IsCallAt}
-use Rattle.cp_shard.specs.Steps.{early_at, early}
+use Rattle.cp_shard.specs.Model.{ShardModel}
+use Rattle.cp_shard.specs.Steps.{IsByWriter, early_at, early}
 use Rattle.cp_shard.proofs.Texts.{put_is_no_get, get_is_no_put}
 
 -- ---- the split
 
 -- what is asked of the leaf source, or refused for want of pages
-abbrev pub late : List ℕ → ℕ → List Item → List Content → ℕ → Request → Result ℕ LeavesOver → Outcome
+abbrev pub late : List ℕ → ℕ → List Item → List Content → ℕ → Request → Result ℕ LeavesOver → Effect
 late store pages items contents pass request leaf = cond (ltb (pages_free pages items) (pages_of request)) (Same (CallRefused (refusal.PoolFull (pages_free pages items) (pages_of request)))) (with_leaf store items contents pass request leaf)
 
 full : ℕ → List Item → Request → Option Answer
 full pages items request = cond (ltb (pages_free pages items) (pages_of request)) (Some (CallRefused (refusal.PoolFull (pages_free pages items) (pages_of request)))) None
 
-abbrev pub or_late : Option Answer → Outcome → Outcome
+abbrev pub or_late : Option Answer → Effect → Effect
 or_late (Some a) outcome = Same a
 or_late None outcome = outcome
 
@@ -69,15 +71,31 @@ at_split store pages items contents pass request leaf None = go (is_stale items 
     go true h = refl
     go false h = h
 
-pub split : (store : List ℕ) (pages : ℕ) (items : List Item) (contents : List Content) (pass : ℕ) (request : Request) (leaf : Result ℕ LeavesOver) → shard_step store pages items contents pass request leaf ≡ or_late (early store items contents request) (late store pages items contents pass request leaf)
+-- who may make the call in the shard's epoch: anyone a get, and a put the writer whose key signed it
+abbrev pub MayWrite : List ℕ → List Item → Request → Type 0
+MayWrite list items request = epoch_of request ≡ epoch_now items → unwritten list items request ≡ None
+
+pub get_may : (list : List ℕ) (items : List Item) (r : GetRequest) → MayWrite list items (ask.Get r)
+unfolding unwritten
+get_may list items r same = refl
+
+pub put_may : (s : ShardModel) (p : SignedPut) (r : PutRequest) (content : List ℕ) → put_request_view r ≡ p.request → IsSigned p → IsByWriter s p → MayWrite s.first s.items (ask.Put r p.signature content)
+unfolding unwritten
+put_may s p r content is signed by same =
+    let key : writers_key s.first s.items p.request ≡ Some p.key = by (ap (λ (x : put_spec.PutRequest). x.epoch) (sym is) ∙ same) in
+    ap (λ x. unsigned_by x p.signature (writers_key s.first s.items x)) is ∙ ap (unsigned_by p.request p.signature) key ∙ ap (λ t. cond t None (Some (CallRefused refusal.BadSignature))) signed
+
+pub split : (store : List ℕ) (pages : ℕ) (list : List ℕ) (items : List Item) (contents : List Content) (pass : ℕ) (request : Request) (leaf : Result ℕ LeavesOver) → MayWrite list items request
+    → shard_step store pages list items contents pass request leaf ≡ or_late (early store items contents request) (late store pages items contents pass request leaf)
 unfolding shard_step settled early
-split store pages items contents pass request leaf = go (not (eqb (epoch_of request) (epoch_now items))) (found items request) (at_split store pages items contents pass request leaf (found items request))
+split store pages list items contents pass request leaf may = go (not (eqb (epoch_of request) (epoch_now items))) refl (found items request) (at_split store pages items contents pass request leaf (found items request))
   where
-    go : (t : Bool) (o : Option RowItem) → unless_settled (at_found store pages items contents request o) (with_leaf store items contents pass request leaf) ≡ or_late (early_at store items contents request o) (late store pages items contents pass request leaf)
-        → unless_settled (cond t (Some (CallRefused (refusal.WrongEpoch (epoch_now items)))) (at_found store pages items contents request o)) (with_leaf store items contents pass request leaf)
+    go : (t : Bool) → not (eqb (epoch_of request) (epoch_now items)) ≡ t → (o : Option RowItem)
+        → unless_settled (at_found store pages items contents request o) (with_leaf store items contents pass request leaf) ≡ or_late (early_at store items contents request o) (late store pages items contents pass request leaf)
+        → unless_settled (cond t (Some (CallRefused (refusal.WrongEpoch (epoch_now items)))) (or_else (unwritten list items request) (at_found store pages items contents request o))) (with_leaf store items contents pass request leaf)
         ≡ or_late (cond t (Some (CallRefused (refusal.WrongEpoch (epoch_now items)))) (early_at store items contents request o)) (late store pages items contents pass request leaf)
-    go true o h = refl
-    go false o h = h
+    go true q o h = refl
+    go false q o h = ap (λ u. unless_settled (or_else u (at_found store pages items contents request o)) (with_leaf store items contents pass request leaf)) (may (eqb-true _ _ (not-false _ q))) ∙ h
 
 -- what a call that needs a new entry has passed
 pub record IsPassed (items : List Item) (request : Request) : Type 0 where

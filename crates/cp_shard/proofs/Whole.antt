@@ -22,7 +22,7 @@ use Rattle.cp_core.specs.Booking.{Booking}
 use Rattle.cp_core.specs.Life.{RowItem, rows_of, tip_after, shard_of}
 use Rattle.cp_core.specs.Requests.{epoch_of, block_of, client_of, nonce_of, pages_of, request_text}
 use Rattle.cp_core.specs.Calls.{epoch_now, latest_of, head_of, found, is_stale, again_entry, asked_text, is_overtaken, attested, new_entry, content_for, content_at, pages_free, with_leaf, booked}
-use Rattle.cp_core.specs.Calls.Outcome.{Same, New}
+use Rattle.cp_core.specs.Calls.Effect.{Same, New}
 use Rattle.cp_core.specs.Machine.{content_in, with_content}
 use Rattle.cp_core.proofs.ContentLemmas.{content_push}
 use Rattle.cp_core.specs.declared.content.Content.{Content}
@@ -39,7 +39,7 @@ use Rattle.cp_shard.specs.Kept.{tip_of, IsNext, key_of}
 use Rattle.cp_shard.specs.Places.{found_at}
 use Rattle.cp_shard.specs.Refusals.{IsLate}
 use Rattle.cp_shard.specs.Steps.{early_at, early, put_of, step_of, Refuses, OnMemory, IsSaid}
-use Rattle.cp_shard.proofs.StepLaws.{late, or_late, split, passed, found_is}
+use Rattle.cp_shard.proofs.StepLaws.{MayWrite, late, or_late, split, passed, found_is}
 
 -- ---- which refusals come early
 
@@ -85,11 +85,13 @@ is_early store items contents request = go (not (eqb (epoch_of request) (epoch_n
 
 -- ---- a call that needs no new entry
 
-pub settled_step : (s : ShardModel) (pass : ℕ) (request : Request) (answer : Answer) (leaf : Result ℕ LeavesOver) → early s.store s.items s.contents request ≡ Some answer → step_of s pass request leaf ≡ Same answer
-settled_step s pass request answer leaf e = split s.store s.pages s.items s.contents pass request leaf ∙ ap (λ o. or_late o (late s.store s.pages s.items s.contents pass request leaf)) e
+pub settled_step : (s : ShardModel) (pass : ℕ) (request : Request) (may : MayWrite s.first s.items request) (answer : Answer) (leaf : Result ℕ LeavesOver) → early s.store s.items s.contents request ≡ Some answer → step_of s pass request leaf ≡ Same answer
+settled_step s pass request may answer leaf e = split s.store s.pages s.first s.items s.contents pass request leaf may ∙ ap (λ o. or_late o (late s.store s.pages s.items s.contents pass request leaf)) e
 
 refuses_why : (s : ShardModel) (pass : ℕ) (request : Request) (limit found : ℕ) (why : CallRefusal) → IsEarlyWhy why → ((leaf : Result ℕ LeavesOver) → step_of s pass request leaf ≡ Same (spoken.CallRefused why)) → Refuses (step_of s pass request) limit found why
 refuses_why s pass request limit found (refusal.WrongEpoch current) w h = h
+refuses_why s pass request limit found (refusal.NotAWriter family client) w h = h
+refuses_why s pass request limit found refusal.BadSignature w h = h
 refuses_why s pass request limit found (refusal.NonceUsed position) w h = h
 refuses_why s pass request limit found (refusal.Overtaken latest) w h = h
 refuses_why s pass request limit found (refusal.StaleVersion latest) w h = h
@@ -97,15 +99,17 @@ refuses_why s pass request limit found refusal.OutOfMemory w h = absurd w
 refuses_why s pass request limit found (refusal.PoolFull free need) w h = absurd w
 refuses_why s pass request limit found (refusal.LeavesOver over) w h = absurd w
 
-pub refuses_early : (s : ShardModel) (pass : ℕ) (request : Request) (limit found : ℕ) (why : CallRefusal) → early s.store s.items s.contents request ≡ Some (spoken.CallRefused why) → Refuses (step_of s pass request) limit found why
-refuses_early s pass request limit found why e =
-    refuses_why s pass request limit found why (subst IsEarly e (is_early s.store s.items s.contents request)) (λ leaf. settled_step s pass request (spoken.CallRefused why) leaf e)
+pub refuses_early : (s : ShardModel) (pass : ℕ) (request : Request) (may : MayWrite s.first s.items request) (limit found : ℕ) (why : CallRefusal) → early s.store s.items s.contents request ≡ Some (spoken.CallRefused why) → Refuses (step_of s pass request) limit found why
+refuses_early s pass request may limit found why e =
+    refuses_why s pass request limit found why (subst IsEarly e (is_early s.store s.items s.contents request)) (λ leaf. settled_step s pass request may (spoken.CallRefused why) leaf e)
 
 pub memory_early : (store : List ℕ) (items : List Item) (contents : List Content) (request : Request) (P : Type 0) (why : CallRefusal) → early store items contents request ≡ Some (spoken.CallRefused why) → OnMemory P why
 memory_early store items contents request P why e = go why (subst IsEarly e (is_early store items contents request))
   where
     go : (why : CallRefusal) → IsEarlyWhy why → OnMemory P why
     go (refusal.WrongEpoch current) w = tt
+    go (refusal.NotAWriter family client) w = tt
+    go refusal.BadSignature w = tt
     go (refusal.NonceUsed position) w = tt
     go (refusal.Overtaken latest) w = tt
     go (refusal.StaleVersion latest) w = tt
@@ -114,54 +118,58 @@ memory_early store items contents request P why e = go why (subst IsEarly e (is_
     go (refusal.LeavesOver over) w = tt
 
 -- a get's, where memory may be wanted
-pub refuses_said : (s : ShardModel) (pass : ℕ) (request : Request) (limit found : ℕ) (why : CallRefusal) → IsSaid (early s.store s.items s.contents request) (Err why) → Refuses (step_of s pass request) limit found why
-refuses_said s pass request limit found refusal.OutOfMemory h = tt
-refuses_said s pass request limit found (refusal.WrongEpoch current) h = refuses_early s pass request limit found (refusal.WrongEpoch current) h
-refuses_said s pass request limit found (refusal.NonceUsed position) h = refuses_early s pass request limit found (refusal.NonceUsed position) h
-refuses_said s pass request limit found (refusal.Overtaken latest) h = refuses_early s pass request limit found (refusal.Overtaken latest) h
-refuses_said s pass request limit found (refusal.StaleVersion latest) h = refuses_early s pass request limit found (refusal.StaleVersion latest) h
-refuses_said s pass request limit found (refusal.PoolFull free need) h = refuses_early s pass request limit found (refusal.PoolFull free need) h
-refuses_said s pass request limit found (refusal.LeavesOver over) h = refuses_early s pass request limit found (refusal.LeavesOver over) h
+pub refuses_said : (s : ShardModel) (pass : ℕ) (request : Request) (may : MayWrite s.first s.items request) (limit found : ℕ) (why : CallRefusal) → IsSaid (early s.store s.items s.contents request) (Err why) → Refuses (step_of s pass request) limit found why
+refuses_said s pass request may limit found refusal.OutOfMemory h = tt
+refuses_said s pass request may limit found (refusal.WrongEpoch current) h = refuses_early s pass request may limit found (refusal.WrongEpoch current) h
+refuses_said s pass request may limit found (refusal.NotAWriter family client) h = refuses_early s pass request may limit found (refusal.NotAWriter family client) h
+refuses_said s pass request may limit found refusal.BadSignature h = refuses_early s pass request may limit found refusal.BadSignature h
+refuses_said s pass request may limit found (refusal.NonceUsed position) h = refuses_early s pass request may limit found (refusal.NonceUsed position) h
+refuses_said s pass request may limit found (refusal.Overtaken latest) h = refuses_early s pass request may limit found (refusal.Overtaken latest) h
+refuses_said s pass request may limit found (refusal.StaleVersion latest) h = refuses_early s pass request may limit found (refusal.StaleVersion latest) h
+refuses_said s pass request may limit found (refusal.PoolFull free need) h = refuses_early s pass request may limit found (refusal.PoolFull free need) h
+refuses_said s pass request may limit found (refusal.LeavesOver over) h = refuses_early s pass request may limit found (refusal.LeavesOver over) h
 
 -- ---- a call that needs a new entry
 
-late_step : (s : ShardModel) (pass : ℕ) (request : Request) (leaf : Result ℕ LeavesOver) → early s.store s.items s.contents request ≡ None → step_of s pass request leaf ≡ late s.store s.pages s.items s.contents pass request leaf
-late_step s pass request leaf e = split s.store s.pages s.items s.contents pass request leaf ∙ ap (λ o. or_late o (late s.store s.pages s.items s.contents pass request leaf)) e
+late_step : (s : ShardModel) (pass : ℕ) (request : Request) (may : MayWrite s.first s.items request) (leaf : Result ℕ LeavesOver) → early s.store s.items s.contents request ≡ None → step_of s pass request leaf ≡ late s.store s.pages s.items s.contents pass request leaf
+late_step s pass request may leaf e = split s.store s.pages s.first s.items s.contents pass request leaf may ∙ ap (λ o. or_late o (late s.store s.pages s.items s.contents pass request leaf)) e
 
-fits_step : (s : ShardModel) (pass : ℕ) (request : Request) (leaf : Result ℕ LeavesOver) → early s.store s.items s.contents request ≡ None → pages_of request ≤ pages_free s.pages s.items → step_of s pass request leaf ≡ with_leaf s.store s.items s.contents pass request leaf
-fits_step s pass request leaf e fits =
-    late_step s pass request leaf e
+fits_step : (s : ShardModel) (pass : ℕ) (request : Request) (may : MayWrite s.first s.items request) (leaf : Result ℕ LeavesOver) → early s.store s.items s.contents request ≡ None → pages_of request ≤ pages_free s.pages s.items → step_of s pass request leaf ≡ with_leaf s.store s.items s.contents pass request leaf
+fits_step s pass request may leaf e fits =
+    late_step s pass request may leaf e
     ∙ ap (λ t. cond t (Same (spoken.CallRefused (refusal.PoolFull (pages_free s.pages s.items) (pages_of request)))) (with_leaf s.store s.items s.contents pass request leaf)) (le-ltb _ _ fits)
 
-full_step : (s : ShardModel) (pass : ℕ) (request : Request) (leaf : Result ℕ LeavesOver) → early s.store s.items s.contents request ≡ None → pages_free s.pages s.items < pages_of request → step_of s pass request leaf ≡ Same (spoken.CallRefused (refusal.PoolFull (pages_free s.pages s.items) (pages_of request)))
-full_step s pass request leaf e full =
-    late_step s pass request leaf e
+full_step : (s : ShardModel) (pass : ℕ) (request : Request) (may : MayWrite s.first s.items request) (leaf : Result ℕ LeavesOver) → early s.store s.items s.contents request ≡ None → pages_free s.pages s.items < pages_of request → step_of s pass request leaf ≡ Same (spoken.CallRefused (refusal.PoolFull (pages_free s.pages s.items) (pages_of request)))
+full_step s pass request may leaf e full =
+    late_step s pass request may leaf e
     ∙ ap (λ t. cond t (Same (spoken.CallRefused (refusal.PoolFull (pages_free s.pages s.items) (pages_of request)))) (with_leaf s.store s.items s.contents pass request leaf)) (lt-ltb _ _ full)
 
 -- what refuses its appending
-pub refuses_late : (s : ShardModel) (pass : ℕ) (request : Request) (limit found free need : ℕ) (why : CallRefusal) → early s.store s.items s.contents request ≡ None → need ≡ pages_of request → (free < need → free ≡ pages_free s.pages s.items) → (need ≤ free → need ≤ pages_free s.pages s.items)
+pub refuses_late : (s : ShardModel) (pass : ℕ) (request : Request) (may : MayWrite s.first s.items request) (limit found free need : ℕ) (why : CallRefusal) → early s.store s.items s.contents request ≡ None → need ≡ pages_of request → (free < need → free ≡ pages_free s.pages s.items) → (need ≤ free → need ≤ pages_free s.pages s.items)
     → IsLate free need limit found why → Refuses (step_of s pass request) limit found why
-refuses_late s pass request limit found free need refusal.OutOfMemory e pages same fits h = tt
-refuses_late s pass request limit found free need (refusal.PoolFull f n) e pages same fits h =
+refuses_late s pass request may limit found free need refusal.OutOfMemory e pages same fits h = tt
+refuses_late s pass request may limit found free need (refusal.PoolFull f n) e pages same fits h =
     let at : free ≡ pages_free s.pages s.items = same h.2 in
-    λ leaf. full_step s pass request leaf e (omega (arith, h.2, at, pages))
+    λ leaf. full_step s pass request may leaf e (omega (arith, h.2, at, pages))
     ∙ ap (λ f. Same (spoken.CallRefused (refusal.PoolFull f (pages_of request)))) (sym (h.0 ∙ at)) ∙ ap (λ n. Same (spoken.CallRefused (refusal.PoolFull f n))) (sym (h.1 ∙ pages))
-refuses_late s pass request limit found free need (refusal.LeavesOver over) e pages same fits h =
-    (fits_step s pass request (Err over) e (let room : need ≤ pages_free s.pages s.items = fits h.0 in omega (arith, room, pages)), h.1, h.2, h.3)
-refuses_late s pass request limit found free need (refusal.WrongEpoch current) e pages same fits h = absurd h
-refuses_late s pass request limit found free need (refusal.NonceUsed position) e pages same fits h = absurd h
-refuses_late s pass request limit found free need (refusal.Overtaken latest) e pages same fits h = absurd h
-refuses_late s pass request limit found free need (refusal.StaleVersion latest) e pages same fits h = absurd h
+refuses_late s pass request may limit found free need (refusal.LeavesOver over) e pages same fits h =
+    (fits_step s pass request may (Err over) e (let room : need ≤ pages_free s.pages s.items = fits h.0 in omega (arith, room, pages)), h.1, h.2, h.3)
+refuses_late s pass request may limit found free need (refusal.WrongEpoch current) e pages same fits h = absurd h
+refuses_late s pass request may limit found free need (refusal.NotAWriter family client) e pages same fits h = absurd h
+refuses_late s pass request may limit found free need refusal.BadSignature e pages same fits h = absurd h
+refuses_late s pass request may limit found free need (refusal.NonceUsed position) e pages same fits h = absurd h
+refuses_late s pass request may limit found free need (refusal.Overtaken latest) e pages same fits h = absurd h
+refuses_late s pass request may limit found free need (refusal.StaleVersion latest) e pages same fits h = absurd h
 
 -- what it leads to
-pub new_step : (s : ShardModel) (pass : ℕ) (request : Request) (leaf : ℕ) (e : Entry) (a : Attestation) (text content : List ℕ) → early s.store s.items s.contents request ≡ None → pages_of request ≤ pages_free s.pages s.items
+pub new_step : (s : ShardModel) (pass : ℕ) (request : Request) (may : MayWrite s.first s.items request) (leaf : ℕ) (e : Entry) (a : Attestation) (text content : List ℕ) → early s.store s.items s.contents request ≡ None → pages_of request ≤ pages_free s.pages s.items
     → e ≡ new_entry s.items request → a ≡ attested s.store (head_of s.items (block_of request)) e → text ≡ entry_text e → content ≡ content_for s.contents (new_entry s.items request).kind (block_of request)
     → step_of s pass request (Ok leaf) ≡ New (spoken.Booked (record { leaf = leaf; text = attestation_text a; content = content })) (record { pass = pass; leaf = leaf; pages = pages_of request; entry = text })
 unfolding booked
-new_step s pass request leaf e a text content none fits entry signed spelled reads =
+new_step s pass request may leaf e a text content none fits entry signed spelled reads =
     let signs : attested s.store (head_of s.items (block_of request)) (new_entry s.items request) ≡ a = ap (attested s.store (head_of s.items (block_of request))) (sym entry) ∙ sym signed in
     let spells : entry_text (new_entry s.items request) ≡ text = ap entry_text (sym entry) ∙ sym spelled in
-    fits_step s pass request (Ok leaf) none fits
+    fits_step s pass request may (Ok leaf) none fits
     ∙ ap (λ t. New (spoken.Booked (record { leaf = leaf; text = attestation_text (attested s.store (head_of s.items (block_of request)) (new_entry s.items request)); content = content_for s.contents (new_entry s.items request).kind (block_of request) })) (record { pass = pass; leaf = leaf; pages = pages_of request; entry = t })) spells
     ∙ ap (λ x. New (spoken.Booked (record { leaf = leaf; text = attestation_text x; content = content_for s.contents (new_entry s.items request).kind (block_of request) })) (record { pass = pass; leaf = leaf; pages = pages_of request; entry = text })) signs
     ∙ ap (λ x. New (spoken.Booked (record { leaf = leaf; text = attestation_text a; content = x })) (record { pass = pass; leaf = leaf; pages = pages_of request; entry = text })) (sym reads)
@@ -280,6 +288,8 @@ put_reads contents r signature bytes b = sym (content_push contents (record { bl
 pub put_memory : (P : Type 0) → P → (why : CallRefusal) → OnMemory P why
 put_memory P h refusal.OutOfMemory = h
 put_memory P h (refusal.WrongEpoch current) = tt
+put_memory P h (refusal.NotAWriter family client) = tt
+put_memory P h refusal.BadSignature = tt
 put_memory P h (refusal.NonceUsed position) = tt
 put_memory P h (refusal.Overtaken latest) = tt
 put_memory P h (refusal.StaleVersion latest) = tt

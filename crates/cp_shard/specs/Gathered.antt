@@ -31,7 +31,7 @@ row_tip front r = record { block = row_block r; tip = tip_from (tip_of (front ++
 
 abbrev pub tips_by : List Item → Item → List RowTip
 tips_by front (Row pass leaf pages entry) = row_tip front (record { pass = pass; leaf = leaf; pages = pages; entry = entry }) ∷ []
-tips_by front (Frozen n) = []
+tips_by front (Frozen n next) = []
 
 -- of each row among the items behind these
 abbrev pub row_tips : List Item → List Item → List RowTip
@@ -44,7 +44,7 @@ row_tips front (x ∷ xs) = tips_by front x ++ row_tips (front ++ x ∷ []) xs
 abbrev pub row_counts : ℕ → List Item → List ℕ
 row_counts n [] = []
 row_counts n (Row pass leaf pages entry ∷ xs) = row_counts (n + 1) xs
-row_counts n (Frozen epoch ∷ xs) = n ∷ row_counts n xs
+row_counts n (Frozen epoch next ∷ xs) = n ∷ row_counts n xs
 
 -- both are kept, with room for so many freezes
 pub record KeepsRows (items : List Item) (tips : List RowTip) (counts : List ℕ) (closings room : ℕ) : Type 0 where

@@ -22,7 +22,7 @@ use Rattle.cp_shard.specs.Contents.{HasContents}
 abbrev pub tip_of : List Item → ℕ → Tip
 tip_of items b = tip_after b (entries (rows_of items b))
 
-pub record Keeps (store : List ℕ) (index pages closings epoch room : ℕ) (items : List Item) (calls : List Call) (standings : BTreeMap ℕ Standing) (places : BTreeMap Key ℕ) (pool : Pages) : Type 0 where
+pub record ShardKeeps (store : List ℕ) (index pages closings epoch room : ℕ) (items : List Item) (calls : List Call) (standings : BTreeMap ℕ Standing) (places : BTreeMap Key ℕ) (pool : Pages) : Type 0 where
   pub each : Each (IsItemOf index) items
   pub epoch_is : epoch ≡ epoch_now items
   pub tips_are : (b : ℕ) → tip_at standings b ≡ tip_of items b

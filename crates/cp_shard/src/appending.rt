@@ -7,6 +7,7 @@ ghost use Rattle.cp_pages.specs.Pages.{pages_for};
 ghost use Rattle.cp_statements.specs.View.{attestation_view};
 ghost use Rattle.cp_shard.specs.Kept.{IsNext};
 ghost use Rattle.cp_shard.specs.Refusals.{IsLate};
+ghost use Rattle.cp_shard.specs.Steps.{IsNewLeaf};
 
 use crate::booking::{key_by, pages_of, tip_by};
 use crate::call::Call;
@@ -20,7 +21,7 @@ use cp_core::{CallRefusal, Item, LeafSource};
 use cp_statements::Attestation;
 
 impl Shard {
-    /// Appends a get's entry, where there is memory and a leaf for it; a refusal changes nothing.
+    // Appends a get's entry, where there is memory and a leaf for it; a refusal changes nothing.
     pub(crate) fn append_get<L: LeafSource>(
         &mut self,
         leaves: &mut L,
@@ -29,11 +30,15 @@ impl Shard {
         text: Bytes,
         attestation: Attestation,
     ) -> Result<u32, CallRefusal>
-        requires next { IsNext self.old.store self.old.index self.old.items (attestation_view attestation) text }
+        requires next { IsNext self.old.store self.old.index self.old.items
+            (attestation_view attestation) text }
         requires get { (attestation_view attestation).kind ≡ 2 }
         requires limit { limit ≤ 2 ^ 32 }
-        ensures appended { IfOk result (λ leaf. self.new ≡ record self.old { items = self.old.items ++ Row pass leaf 0 text ∷ [] }) }
+        ensures appended { IfOk result
+            (λ leaf. self.new ≡ record self.old
+            { items = self.old.items ++ Row pass leaf 0 text ∷ [] }) }
         ensures below { IfOk result (λ leaf. leaf < limit) }
+        ensures once { IfOk result (IsNewLeaf (L.given leaves.old)) }
         ensures given { IfOk result (λ leaf. L.given leaves.new ≡ L.given leaves.old ++ leaf ∷ []) }
         ensures unchanged { OnErr result (self.new ≡ self.old) }
         ensures none_given { OnErr result (L.given leaves.new ≡ L.given leaves.old) }
@@ -72,8 +77,8 @@ impl Shard {
         Ok(leaf)
     }
 
-    /// Appends a put's entry, where there is memory, and room and a leaf for it; a refusal changes
-    /// nothing. The content before it gives its pages back.
+    // Appends a put's entry, where there is memory, and room and a leaf for it; a refusal changes
+    // nothing. The content before it gives its pages back.
     pub(crate) fn append_put<L: LeafSource>(
         &mut self,
         leaves: &mut L,
@@ -83,26 +88,36 @@ impl Shard {
         attestation: Attestation,
         content: &[u8],
     ) -> Result<u32, CallRefusal>
-        requires next { IsNext self.old.store self.old.index self.old.items (attestation_view attestation) text }
+        requires next { IsNext self.old.store self.old.index self.old.items
+            (attestation_view attestation) text }
         requires put { (attestation_view attestation).kind ≡ 1 }
         requires version { 1 ≤ attestation.version }
         requires hash { sha256 content.now ≡ attestation.content }
         requires len { length content.now ≤ 65536 }
         requires limit { limit ≤ 2 ^ 32 }
-        ensures items { IfOk result (λ leaf. self.new.items ≡ self.old.items ++ Row pass leaf (pages_for (length content.now)) text ∷ []) }
-        ensures contents { OnOk result ((b : ℕ) → content_at self.new.contents b ≡ cond (attestation.block == b) content.now (content_at self.old.contents b)) }
-        ensures fits { OnOk result (pages_for (length content.now) ≤ pages_free self.old.pages self.old.items) }
+        ensures items { IfOk result
+            (λ leaf. self.new.items ≡ self.old.items ++ Row pass leaf
+            (pages_for (length content.now)) text ∷ []) }
+        ensures contents { OnOk result
+            ((b : ℕ) → content_at self.new.contents b ≡ cond (attestation.block == b) content.now
+            (content_at self.old.contents b)) }
+        ensures fits { OnOk result
+            (pages_for (length content.now) ≤ pages_free self.old.pages self.old.items) }
         ensures store { self.new.store ≡ self.old.store }
         ensures index { self.new.index ≡ self.old.index }
         ensures pages { self.new.pages ≡ self.old.pages }
         ensures closings { self.new.closings ≡ self.old.closings }
+        ensures first { self.new.first ≡ self.old.first }
         ensures below { IfOk result (λ leaf. leaf < limit) }
+        ensures once { IfOk result (IsNewLeaf (L.given leaves.old)) }
         ensures given { IfOk result (λ leaf. L.given leaves.new ≡ L.given leaves.old ++ leaf ∷ []) }
         ensures unchanged { OnErr result (self.new ≡ self.old) }
         ensures none_given { OnErr result (L.given leaves.new ≡ L.given leaves.old) }
         ensures found { L.found leaves.old ≤ L.found leaves.new }
         ensures fixed { L.fixed leaves.new ≡ L.fixed leaves.old }
-        ensures late { IfErr result (IsLate (pages_free self.old.pages self.old.items) (pages_for (length content.now)) limit (L.found leaves.new)) }
+        ensures late { IfErr result
+            (IsLate (pages_free self.old.pages self.old.items)
+            (pages_for (length content.now)) limit (L.found leaves.new)) }
     {
         let block = attestation.block;
         let freezes_left = self.closings as u64 - (self.epoch - 1);

@@ -30,7 +30,8 @@ pub fn attest(store: &[u8; 32], prev: &[u8; 32], entry: &Entry, text: &[u8]) -> 
     requires epoch { 1 ≤ entry.now.epoch }
     requires signature { length entry.now.signature.now < 2 ^ 32 }
     requires get { (entry_view entry.now).kind ≡ 2 → entry.now.signature.now ≡ [] }
-    ensures attested { attestation_view result ≡ attested store.now prev.now (entry_view entry.now) }
+    ensures attested { attestation_view result ≡ attested store.now prev.now
+        (entry_view entry.now) }
     ensures kind { result.kind ≡ entry.now.kind }
     ensures block { result.block ≡ entry.now.block }
     ensures version { result.version ≡ entry.now.version }

@@ -20,7 +20,8 @@ pub struct Call {
 impl Call {
     /// Whether the call was this put.
     pub fn is_put(&self, request: &PutRequest) -> bool
-        ensures { result ≡ bytes_eq (asked_by (attestation_view self.now.attestation)) (put_request_text (put_request_view request.now)) }
+        ensures { result ≡ bytes_eq (asked_by (attestation_view self.now.attestation))
+            (put_request_text (put_request_view request.now)) }
     {
         let a = &self.attestation;
         match a.kind {
@@ -42,7 +43,8 @@ impl Call {
 
     /// Whether the call was this get.
     pub fn is_get(&self, request: &GetRequest) -> bool
-        ensures { result ≡ bytes_eq (asked_by (attestation_view self.now.attestation)) (get_request_text (get_request_view request.now)) }
+        ensures { result ≡ bytes_eq (asked_by (attestation_view self.now.attestation))
+            (get_request_text (get_request_view request.now)) }
     {
         let a = &self.attestation;
         match a.kind {

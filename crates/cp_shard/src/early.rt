@@ -20,21 +20,21 @@ use cp_statements::{GetRequest, PutRequest};
 use cp_tips::Tip;
 use std::alloc::Global;
 
-/// The call at a place, if there is one.
+// The call at a place, if there is one.
 fn call_in(calls: &[Call], place: usize) -> Option<Call>
     ensures { result ≡ slice_get calls.now place }
 {
     calls.get(place).copied()
 }
 
-/// Whether a version is the one after the latest.
+// Whether a version is the one after the latest.
 fn is_next(version: u64, latest: u64) -> bool
     ensures { result ≡ (version == latest + 1) }
 {
     version > latest && version - latest == 1
 }
 
-/// A copy of what a live run reads as.
+// A copy of what a live run reads as.
 fn copy_of(alloc: Global, pool: &Pool, run: &Run) -> Result<Bytes, OutOfMemory>
     requires { IsLive pool.now run.now }
     ensures { IfOk result (λ content. content ≡ content_of pool.now run.now) }
@@ -45,7 +45,7 @@ fn copy_of(alloc: Global, pool: &Pool, run: &Run) -> Result<Bytes, OutOfMemory>
 }
 
 impl Shard {
-    /// The call of this epoch that has the key.
+    // The call of this epoch that has the key.
     fn call_at(&self, key: Key) -> Option<Call>
         ensures { IsCallOf self.now.store self.now.items key result }
     {
@@ -55,14 +55,14 @@ impl Shard {
         }
     }
 
-    /// The block's tip.
+    // The block's tip.
     pub(crate) fn tip(&self, block: u64) -> Tip
         ensures { tip_view result ≡ tip_of self.now.items block }
     {
         tip_in(&self.standings, block)
     }
 
-    /// A copy of the block's latest content; empty where none was put.
+    // A copy of the block's latest content; empty where none was put.
     pub(crate) fn content(&self, alloc: Global, block: u64) -> Result<Bytes, OutOfMemory>
         ensures { IfOk result (λ content. content ≡ content_at self.now.contents block) }
     {
@@ -78,13 +78,14 @@ impl Shard {
         }
     }
 
-    /// What a put is answered that needs no new entry; `None` where it needs one.
+    // What a put is answered that needs no new entry; `None` where it needs one.
     pub(crate) fn early_put(
         &self,
         alloc: Global,
         request: &PutRequest,
     ) -> Result<Option<Booked>, CallRefusal>
-        ensures { early self.now.store self.now.items self.now.contents (ask.Put request.now [] []) ≡ said result }
+        ensures { early self.now.store self.now.items self.now.contents (ask.Put request.now [] [])
+            ≡ said result }
     {
         if request.epoch != self.epoch {
             return Err(CallRefusal::WrongEpoch {
@@ -118,14 +119,15 @@ impl Shard {
             }
         }
     }
-    /// What a get is answered that needs no new entry; `None` where it needs one. Memory is wanted for
-    /// a content alone.
+    // What a get is answered that needs no new entry; `None` where it needs one. Memory is wanted for
+    // a content alone.
     pub(crate) fn early_get(
         &self,
         alloc: Global,
         request: &GetRequest,
     ) -> Result<Option<Booked>, CallRefusal>
-        ensures { IsSaid (early self.now.store self.now.items self.now.contents (ask.Get request.now)) result }
+        ensures { IsSaid (early self.now.store self.now.items self.now.contents
+            (ask.Get request.now)) result }
     {
         if request.epoch != self.epoch {
             return Err(CallRefusal::WrongEpoch {

@@ -11,15 +11,16 @@ use cp_core::{FrozenBlock, Item};
 use std::alloc::Global;
 use std::collections::BTreeMap;
 
-/// Adds the text of a row to its block, and sets the block's tip. Where memory is wanted, the tip may
-/// be set already.
+// Adds the text of a row to its block, and sets the block's tip. Where memory is wanted, the tip may
+// be set already.
 fn add_text(
     alloc: Global,
     blocks: &mut BTreeMap<u64, FrozenBlock>,
     row_tip: &RowTip,
     text: Bytes,
 ) -> Result<(), OutOfMemory>
-    ensures { OnOk result ((b : ℕ) → held_at blocks.new b ≡ cond (row_tip.now.block == b) (Some (with_text (held_at blocks.old b) row_tip.now text)) (held_at blocks.old b)) }
+    ensures { OnOk result ((b : ℕ) → held_at blocks.new b ≡ cond (row_tip.now.block == b)
+        (Some (with_text (held_at blocks.old b) row_tip.now text)) (held_at blocks.old b)) }
 {
     match blocks.get_mut(&row_tip.block) {
         Some(gained) => {
@@ -40,14 +41,15 @@ fn add_text(
     Ok(())
 }
 
-/// Adds a row with what is kept of it.
+// Adds a row with what is kept of it.
 fn add_row(
     alloc: Global,
     blocks: &mut BTreeMap<u64, FrozenBlock>,
     row: &Item,
     row_tip: &RowTip,
 ) -> Result<(), OutOfMemory>
-    ensures { OnOk result ((k n : ℕ) (front : List Item) → IsNextRow k n front row.now row_tip.now → Gathers front n blocks.old → Gathers (front ++ row.now ∷ []) n blocks.new) }
+    ensures { OnOk result ((k n : ℕ) (front : List Item) → IsNextRow k n front row.now row_tip.now
+        → Gathers front n blocks.old → Gathers (front ++ row.now ∷ []) n blocks.new) }
 {
     let Item::Row { entry, .. } = row else {
         return Ok(());
@@ -57,7 +59,7 @@ fn add_row(
     Ok(())
 }
 
-/// Adds the rows of an epoch with what is kept of them.
+// Adds the rows of an epoch with what is kept of them.
 fn add_rows(
     alloc: Global,
     blocks: &mut BTreeMap<u64, FrozenBlock>,
@@ -65,7 +67,9 @@ fn add_rows(
     row_tips: &[RowTip],
 ) -> Result<(), OutOfMemory>
     requires { length row_tips.now ≡ length rows.now }
-    ensures { OnOk result ((k n : ℕ) (front : List Item) → AreNextRows k n front rows.now row_tips.now → Gathers front n blocks.old → Gathers (front ++ rows.now) n blocks.new) }
+    ensures { OnOk result ((k n : ℕ) (front : List Item)
+        → AreNextRows k n front rows.now row_tips.now → Gathers front n blocks.old → Gathers
+        (front ++ rows.now) n blocks.new) }
 {
     for i in 0..rows.len() {
         add_row(alloc, blocks, &rows[i], &row_tips[i])?;
@@ -73,7 +77,7 @@ fn add_rows(
     Ok(())
 }
 
-/// The blocks, ascending.
+// The blocks, ascending.
 fn listed(
     alloc: Global,
     blocks: BTreeMap<u64, FrozenBlock>,
@@ -86,7 +90,7 @@ fn listed(
     Ok(list)
 }
 
-/// What each block gained by the rows of an epoch, of which this is kept; ascending by block.
+// What each block gained by the rows of an epoch, of which this is kept; ascending by block.
 fn gather_rows(
     alloc: Global,
     rows: &[Item],
@@ -114,7 +118,9 @@ pub fn gather(
     requires order { start ≤ end }
     requires items { end + freezes ≤ length items.now }
     requires row_tips { end ≤ length row_tips.now }
-    ensures { IfOk result (λ list. IsGathered list.items (slice_range items.now (start + freezes) (end + freezes)) (slice_range row_tips.now start end)) }
+    ensures { IfOk result (λ list. IsGathered list.items
+        (slice_range items.now (start + freezes) (end + freezes))
+        (slice_range row_tips.now start end)) }
 {
     let rows = &items[start + freezes..end + freezes];
     let list = gather_rows(alloc, rows, &row_tips[start..end])?;

@@ -1,9 +1,10 @@
 //! Gets.
 ghost use Rattle.std.specs.Prelude.{ℕ, ◌≡◌, ◌≤◌, ◌^◌, ◌++◌, Ok, length, IfOk, IfErr, OnErr};
+ghost use Rattle.cp_core.specs.Calls.{added, answer_in};
 ghost use Rattle.cp_core.specs.Life.{shard_of};
 ghost use Rattle.cp_core.specs.declared.answer.Answer.TheVariants as spoken;
 ghost use Rattle.cp_core.specs.declared.request.Request.TheVariants as ask;
-ghost use Rattle.cp_shard.specs.Steps.{added, AddsBelow, answer_in, drawn, early, MayHaveBooking, OnMemory, Refuses, step_of};
+ghost use Rattle.cp_shard.specs.Steps.{AddsBelow, AddsNewLeaf, drawn, early, MayHaveBooking, OnMemory, Refuses, step_of};
 
 use crate::booking::{attest, text_of};
 use crate::shard::Shard;
@@ -35,15 +36,30 @@ impl Shard {
         requires limit { limit ≤ 2 ^ 32 }
 
         // The answer, the item that is added and the leaf that is drawn are the step's, and all else stays.
-        // The added row's leaf is below the limit.
-        ensures answer { IfOk result (λ b. answer_in (step_of self.old pass (ask.Get request.now) (Ok b.leaf)) ≡ spoken.Booked b) }
-        ensures items { IfOk result (λ b. self.new ≡ record self.old { items = self.old.items ++ added (step_of self.old pass (ask.Get request.now) (Ok b.leaf)) }) }
-        ensures below { IfOk result (λ b. AddsBelow (step_of self.old pass (ask.Get request.now) (Ok b.leaf)) limit) }
-        ensures given { IfOk result (λ b. L.given leaves.new ≡ L.given leaves.old ++ drawn (step_of self.old pass (ask.Get request.now) (Ok b.leaf)) b.leaf) }
+        // The added row's leaf is below the limit and wasn't given before.
+        ensures answer { IfOk result (λ b.
+            answer_in (step_of self.old pass (ask.Get request.now) (Ok b.leaf)) ≡ spoken.Booked b) }
+        ensures items { IfOk result (λ b. self.new ≡ record self.old {
+          items = self.old.items
+              ++ added (step_of self.old pass (ask.Get request.now) (Ok b.leaf));
+        }) }
+        ensures below { IfOk result (λ b.
+            AddsBelow (step_of self.old pass (ask.Get request.now) (Ok b.leaf)) limit) }
+        ensures once { IfOk result (λ b.
+            AddsNewLeaf (step_of self.old pass (ask.Get request.now) (Ok b.leaf))
+            (L.given leaves.old)) }
+        ensures given { IfOk result (λ b. L.given leaves.new
+            ≡ L.given leaves.old
+            ++ drawn (step_of self.old pass (ask.Get request.now) (Ok b.leaf)) b.leaf) }
 
         // A refusal is the step's, or want of memory where there would be a booking, and changes nothing.
-        ensures refused { IfErr result (Refuses (step_of self.old pass (ask.Get request.now)) limit (L.found leaves.new)) }
-        ensures memory { IfErr result (OnMemory (MayHaveBooking (early self.old.store self.old.items self.old.contents (ask.Get request.now)))) }
+        ensures refused { IfErr result
+            (Refuses (step_of self.old pass (ask.Get request.now)) limit
+            (L.found leaves.new)) }
+        ensures memory { IfErr result
+            (OnMemory (MayHaveBooking
+            (early self.old.store self.old.items self.old.contents
+            (ask.Get request.now)))) }
         ensures unchanged { OnErr result (self.new ≡ self.old) }
         ensures none_given { OnErr result (L.given leaves.new ≡ L.given leaves.old) }
         ensures found { L.found leaves.old ≤ L.found leaves.new }

@@ -1,10 +1,10 @@
 //! Puts.
 ghost use Rattle.std.specs.Prelude.{ℕ, ◌≡◌, ◌≤◌, ◌^◌, ◌++◌, Ok, None, length, IfOk, IfErr, OnErr};
 ghost use Rattle.sha2.specs.Sha256.{sha256};
-ghost use Rattle.cp_core.specs.Calls.{content_at};
+ghost use Rattle.cp_core.specs.Calls.{added, answer_in, content_at};
 ghost use Rattle.cp_core.specs.Life.{shard_of};
 ghost use Rattle.cp_core.specs.declared.answer.Answer.TheVariants as spoken;
-ghost use Rattle.cp_shard.specs.Steps.{added, AddsBelow, answer_in, contents_after, drawn, early, OnMemory, put_of, Refuses, step_of};
+ghost use Rattle.cp_shard.specs.Steps.{AddsBelow, AddsNewLeaf, contents_after, drawn, early, IsByWriter, OnMemory, put_of, Refuses, step_of};
 
 use crate::booking::{attest, text_of};
 use crate::shard::Shard;
@@ -37,25 +37,45 @@ impl Shard {
         requires shard { shard_of put.now.request.block ≡ self.old.index }
         requires hash { sha256 content.now ≡ put.now.request.content }
         requires len { length content.now ≤ 65536 }
+        requires written { IsByWriter self.old put.now }
         requires limit { limit ≤ 2 ^ 32 }
 
         // The answer, the item that is added, the contents and the leaf that is drawn are the step's. The
-        // added row's leaf is below the limit.
-        ensures answer { IfOk result (λ b. answer_in (step_of self.old pass (put_of put.now content.now) (Ok b.leaf)) ≡ spoken.Booked b) }
-        ensures items { IfOk result (λ b. self.new.items ≡ self.old.items ++ added (step_of self.old pass (put_of put.now content.now) (Ok b.leaf))) }
-        ensures contents { IfOk result (λ b. (block : ℕ) → content_at self.new.contents block ≡ content_at (contents_after (step_of self.old pass (put_of put.now content.now) (Ok b.leaf)) (put_of put.now content.now) self.old.contents) block) }
-        ensures below { IfOk result (λ b. AddsBelow (step_of self.old pass (put_of put.now content.now) (Ok b.leaf)) limit) }
-        ensures given { IfOk result (λ b. L.given leaves.new ≡ L.given leaves.old ++ drawn (step_of self.old pass (put_of put.now content.now) (Ok b.leaf)) b.leaf) }
+        // added row's leaf is below the limit and wasn't given before.
+        ensures answer { IfOk result (λ b.
+            answer_in (step_of self.old pass (put_of put.now content.now) (Ok b.leaf))
+            ≡ spoken.Booked b) }
+        ensures items { IfOk result (λ b. self.new.items
+            ≡ self.old.items
+            ++ added (step_of self.old pass (put_of put.now content.now) (Ok b.leaf))) }
+        ensures contents { IfOk result (λ b. (block : ℕ) → content_at self.new.contents block
+            ≡ content_at
+            (contents_after (step_of self.old pass (put_of put.now content.now) (Ok b.leaf))
+            (put_of put.now content.now) self.old.contents)
+            block) }
+        ensures below { IfOk result (λ b.
+            AddsBelow (step_of self.old pass (put_of put.now content.now) (Ok b.leaf)) limit) }
+        ensures once { IfOk result (λ b.
+            AddsNewLeaf (step_of self.old pass (put_of put.now content.now) (Ok b.leaf))
+            (L.given leaves.old)) }
+        ensures given { IfOk result (λ b. L.given leaves.new
+            ≡ L.given leaves.old
+            ++ drawn (step_of self.old pass (put_of put.now content.now) (Ok b.leaf)) b.leaf) }
 
         // What the shard was made with stays.
         ensures store { self.new.store ≡ self.old.store }
         ensures index { self.new.index ≡ self.old.index }
         ensures pages { self.new.pages ≡ self.old.pages }
         ensures closings { self.new.closings ≡ self.old.closings }
+        ensures first { self.new.first ≡ self.old.first }
 
         // A refusal is the step's, or want of memory at a new entry, and changes nothing.
-        ensures refused { IfErr result (Refuses (step_of self.old pass (put_of put.now content.now)) limit (L.found leaves.new)) }
-        ensures memory { IfErr result (OnMemory (early self.old.store self.old.items self.old.contents (put_of put.now content.now) ≡ None)) }
+        ensures refused { IfErr result
+            (Refuses (step_of self.old pass (put_of put.now content.now)) limit
+            (L.found leaves.new)) }
+        ensures memory { IfErr result
+            (OnMemory (early self.old.store self.old.items self.old.contents
+            (put_of put.now content.now) ≡ None)) }
         ensures unchanged { OnErr result (self.new ≡ self.old) }
         ensures none_given { OnErr result (L.given leaves.new ≡ L.given leaves.old) }
         ensures found { L.found leaves.old ≤ L.found leaves.new }

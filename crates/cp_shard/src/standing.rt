@@ -50,7 +50,8 @@ pub fn reserve(standings: &mut BTreeMap<u64, Standing>, block: u64) -> Result<()
 /// Sets the tip of a block that has a place.
 pub fn set_tip(standings: &mut BTreeMap<u64, Standing>, block: u64, tip: Tip)
     requires { IsSome (tree.get nat_cmp standings.old block) }
-    ensures tips { (b : ℕ) → tip_at standings.new b ≡ cond (block == b) (tip_view tip) (tip_at standings.old b) }
+    ensures tips { (b : ℕ) → tip_at standings.new b ≡ cond (block == b) (tip_view tip)
+        (tip_at standings.old b) }
     ensures runs { (b : ℕ) → run_at standings.new b ≡ run_at standings.old b }
     ensures place { IsSome (tree.get nat_cmp standings.new block) }
 {
@@ -64,7 +65,8 @@ pub fn set_run(standings: &mut BTreeMap<u64, Standing>, block: u64, run: Run) ->
     requires { IsSome (tree.get nat_cmp standings.old block) }
     ensures old { result ≡ run_at standings.old block }
     ensures tips { (b : ℕ) → tip_at standings.new b ≡ tip_at standings.old b }
-    ensures runs { (b : ℕ) → run_at standings.new b ≡ cond (block == b) (Some run) (run_at standings.old b) }
+    ensures runs { (b : ℕ) → run_at standings.new b ≡ cond (block == b) (Some run)
+        (run_at standings.old b) }
 {
     match standings.get_mut(&block) {
         Some(standing) => standing.run.replace(run),

@@ -8,7 +8,7 @@ use Rattle.cp_chain.specs.Legal.{ok_and, is_call}
 use Rattle.cp_core.specs.Life.{RowItem, rows_in, is_of_block, is_of_epoch, rows_of, in_epoch}
 use Rattle.cp_core.specs.Requests.{block_of, client_of, nonce_of}
 use Rattle.cp_core.specs.Calls.{content_at, again_entry, found, epoch_now, at_found, settled, booked, new_row, with_leaf, unless_settled, shard_step}
-use Rattle.cp_core.specs.Calls.Outcome.{New}
+use Rattle.cp_core.specs.Calls.Effect.{New}
 use Rattle.cp_core.specs.Booking.{Booking}
 use Rattle.cp_core.specs.declared.content.Content.{Content}
 use Rattle.cp_core.specs.declared.item.Item.{Item}
@@ -66,9 +66,9 @@ at_found_same store pages items c d request None is same = refl
 at_found_same store pages items c d request (Some r) is same =
     ap Some (again_same store items c d request r.leaf (entry_of r.entry) (λ e reads. subst (λ (b : ℕ). content_at c b ≡ content_at d b) (sym (entry_block (block_of request) (entry_of r.entry) e (found_block items request r is) reads)) same))
 
-pub settled_same : (store : List ℕ) (pages : ℕ) (items : List Item) (c d : List Content) (request : Request) → content_at c (block_of request) ≡ content_at d (block_of request) → settled store pages items c request ≡ settled store pages items d request
+pub settled_same : (store : List ℕ) (pages : ℕ) (first : List ℕ) (items : List Item) (c d : List Content) (request : Request) → content_at c (block_of request) ≡ content_at d (block_of request) → settled store pages first items c request ≡ settled store pages first items d request
 unfolding settled
-settled_same store pages items c d request same = rw (at_found_same store pages items c d request (found items request) refl same) refl
+settled_same store pages first items c d request same = rw (at_found_same store pages items c d request (found items request) refl same) refl
 
 booked_same : (store : List ℕ) (items : List Item) (c d : List Content) (request : Request) (leaf : ℕ) → content_at c (block_of request) ≡ content_at d (block_of request) → booked store items c request leaf ≡ booked store items d request leaf
 unfolding booked
@@ -78,9 +78,9 @@ with_leaf_same : (store : List ℕ) (items : List Item) (c d : List Content) (pa
 with_leaf_same store items c d pass request (Err over) same = refl
 with_leaf_same store items c d pass request (Ok q) same = ap (λ (b : Booking). New (Booked b) (new_row items pass request q)) (booked_same store items c d request q same)
 
-pub step_same : (store : List ℕ) (pages : ℕ) (items : List Item) (c d : List Content) (pass : ℕ) (request : Request) (leaf : Result ℕ LeavesOver) → content_at c (block_of request) ≡ content_at d (block_of request)
-    → shard_step store pages items c pass request leaf ≡ shard_step store pages items d pass request leaf
+pub step_same : (store : List ℕ) (pages : ℕ) (first : List ℕ) (items : List Item) (c d : List Content) (pass : ℕ) (request : Request) (leaf : Result ℕ LeavesOver) → content_at c (block_of request) ≡ content_at d (block_of request)
+    → shard_step store pages first items c pass request leaf ≡ shard_step store pages first items d pass request leaf
 unfolding shard_step
-step_same store pages items c d pass request leaf same =
-    ap (λ (o : Option Answer). unless_settled o (with_leaf store items c pass request leaf)) (settled_same store pages items c d request same)
-    ∙ ap (unless_settled (settled store pages items d request)) (with_leaf_same store items c d pass request leaf same)
+step_same store pages first items c d pass request leaf same =
+    ap (λ (o : Option Answer). unless_settled o (with_leaf store items c pass request leaf)) (settled_same store pages first items c d request same)
+    ∙ ap (unless_settled (settled store pages first items d request)) (with_leaf_same store items c d pass request leaf same)

@@ -2,10 +2,8 @@ pub mod Blocks
 pub mod Alikes
 pub mod Rows
 pub mod Logs
-pub mod ShortRows
 pub mod Closings
 pub mod ShardContents
-pub mod Parts
 pub mod Serving
 pub mod Standings
 pub mod Calling

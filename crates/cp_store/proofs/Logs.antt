@@ -1,15 +1,13 @@
--- The log of an epoch, field by field.
-use Rattle.std.proofs.Common.{◌≡◌, ℕ, ◌^◌, ◌<◌, ◌≤◌, Bool, true, false, cond, eqb, ltb, List, [], ◌∷◌, ◌++◌, length, map, flat_map, get_or, codes, Result, Ok, Less, Equal, Greater, refl, sym, ap, ◌∙◌, arith}
+-- The log of an epoch, piece by piece.
+use Rattle.std.proofs.Common.{◌≡◌, ℕ, ◌^◌, ◌<◌, ◌≤◌, Bool, true, false, cond, eqb, ltb, List, [], ◌∷◌, ◌++◌, length, map, flat_map, get_or, Result, Ok, Less, Equal, Greater, refl, sym, ap, ◌∙◌, arith}
 use Rattle.std.specs.Prelude.{filter}
-use Rattle.std.specs.Int.{w32, w64, to_be_bytes}
 use Rattle.std.specs.Ordering.{nat_cmp, match_ordering}
 use Rattle.std.specs.Cmp.{nat_cmp_is}
 use Rattle.std.specs.BTreeSet.{insert_key}
 use Rattle.std.proofs.lemmas.Bool.{eqb-true, eqb-false, ltb-true, ltb-false, eq-eqb}
-use Rattle.std.proofs.lemmas.List.{append_assoc, length-map}
+use Rattle.std.proofs.lemmas.List.{length-map}
 use Rattle.cp_bytes.specs.Fields.{part}
-use Rattle.cp_chain.specs.Segment.{segment_text}
-use Rattle.cp_chain.specs.Log.{LogPart, log_text, log_part_text}
+use Rattle.cp_chain.specs.Log.{log_text, log_part_text}
 use Rattle.cp_statements.specs.Entry.{Entry, entry_of}
 use Rattle.cp_core.proofs.SealLemmas.{fewer}
 use Rattle.cp_core.proofs.TableLemmas.{few_blocks}
@@ -18,6 +16,7 @@ use Rattle.cp_core.specs.Sealing.{block_read, blocks_of, insert_block}
 use Rattle.cp_core.specs.Frozen.{blocks_in}
 use Rattle.cp_core.specs.declared.item.Item.{Item}
 use Rattle.cp_core.specs.declared.item.Item.TheVariants.{Row}
+use Rattle.cp_closer.specs.Writing.{IsLogStart, IsSegmentStart}
 use Rattle.cp_store.specs.Logs.{rows_at, texts_at, part_at}
 use Rattle.cp_store.proofs.Rows.{few_rows}
 
@@ -54,25 +53,13 @@ few_in_log shards n sixteen few =
 
 -- ---- the text
 
-pub segment_spelled : (items : List Item) (block n : ℕ) (old a b now : List ℕ) → a ≡ old ++ to_be_bytes w64 block → b ≡ a ++ to_be_bytes w32 (length (texts_at items block n)) → now ≡ b ++ flat_map part (texts_at items block n)
+pub segment_spelled : (items : List Item) (block n count : ℕ) (old start now : List ℕ) → count ≡ length (texts_at items block n) → IsSegmentStart block count old start → now ≡ start ++ flat_map part (texts_at items block n)
     → now ≡ old ++ log_part_text (record { block = block; texts = texts_at items block n })
-unfolding log_part_text segment_text
-segment_spelled items block n old a b now at count all =
-    let texts : List (List ℕ) = texts_at items block n in
-    all ∙ ap (λ (zs : List ℕ). zs ++ flat_map part texts) (count ∙ ap (λ (zs : List ℕ). zs ++ to_be_bytes w32 (length texts)) at)
-    ∙ append_assoc (old ++ to_be_bytes w64 block) (to_be_bytes w32 (length texts)) (flat_map part texts)
-    ∙ append_assoc old (to_be_bytes w64 block) (to_be_bytes w32 (length texts) ++ flat_map part texts)
+segment_spelled items block n count old start now many starts all = all ∙ sym (starts (texts_at items block n) (sym many))
 
-pub log_spelled : (shards : List (List Item)) (n : ℕ) (blocks : List ℕ) (tag number count now : List ℕ) → tag ≡ codes "CPl1" → number ≡ tag ++ to_be_bytes w64 n → count ≡ number ++ to_be_bytes w32 (length blocks)
-    → now ≡ count ++ flat_map log_part_text (map (part_at shards n) blocks) → blocks ≡ blocks_in (flat_map rows_in shards) n
+pub log_spelled : (shards : List (List Item)) (n : ℕ) (blocks : List ℕ) (count : ℕ) (start now : List ℕ) → count ≡ length blocks → IsLogStart n count start
+    → now ≡ start ++ flat_map log_part_text (map (part_at shards n) blocks) → blocks ≡ blocks_in (flat_map rows_in shards) n
     → now ≡ log_text (record { epoch = n; parts = map (part_at shards n) (blocks_in (flat_map rows_in shards) n) })
-unfolding log_text
-log_spelled shards n blocks tag number count now a b c d same =
-    let parts : List LogPart = map (part_at shards n) blocks in
-    let counted : to_be_bytes w32 (length blocks) ≡ to_be_bytes w32 (length parts) = ap (to_be_bytes w32) (sym (length-map blocks (part_at shards n))) in
-    let front : count ≡ (codes "CPl1" ++ to_be_bytes w64 n) ++ to_be_bytes w32 (length parts) = c ∙ ap (λ (zs : List ℕ). zs ++ to_be_bytes w32 (length blocks)) (b ∙ ap (λ (zs : List ℕ). zs ++ to_be_bytes w64 n) a) ∙ ap (λ (zs : List ℕ). (codes "CPl1" ++ to_be_bytes w64 n) ++ zs) counted in
-    let whole : now ≡ codes "CPl1" ++ (to_be_bytes w64 n ++ (to_be_bytes w32 (length parts) ++ flat_map log_part_text parts)) =
-    d ∙ ap (λ (zs : List ℕ). zs ++ flat_map log_part_text parts) front
-    ∙ append_assoc (codes "CPl1" ++ to_be_bytes w64 n) (to_be_bytes w32 (length parts)) (flat_map log_part_text parts)
-    ∙ append_assoc (codes "CPl1") (to_be_bytes w64 n) (to_be_bytes w32 (length parts) ++ flat_map log_part_text parts) in
-    whole ∙ ap (λ (bs : List ℕ). codes "CPl1" ++ (to_be_bytes w64 n ++ (to_be_bytes w32 (length (map (part_at shards n) bs)) ++ flat_map log_part_text (map (part_at shards n) bs)))) same
+log_spelled shards n blocks count start now many starts all same =
+    all ∙ sym (starts (map (part_at shards n) blocks) (length-map blocks (part_at shards n) ∙ sym many))
+    ∙ ap (λ (bs : List ℕ). log_text (record { epoch = n; parts = map (part_at shards n) bs })) same

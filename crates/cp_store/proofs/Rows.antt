@@ -9,7 +9,8 @@ use Rattle.cp_bytes.specs.Fields.{part}
 use Rattle.cp_core.proofs.SealLemmas.{fewer}
 use Rattle.cp_core.specs.Life.{RowItem, as_row, rows_in, is_of_block, is_of_epoch, rows_of, in_epoch, entries}
 use Rattle.cp_core.specs.declared.item.Item.{Item}
-use Rattle.cp_store.specs.Logs.{texts_at, HasShortRows}
+use Rattle.cp_shard.specs.Laws.{HasShortRows}
+use Rattle.cp_store.specs.Logs.{texts_at}
 
 -- ---- one list behind another
 

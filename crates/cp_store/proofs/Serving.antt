@@ -6,8 +6,8 @@ use Rattle.cp_core.specs.Store.{Store}
 use Rattle.cp_core.specs.Leaves.{numbers_below}
 use Rattle.cp_core.specs.Life.{RowItem, items_of, shard_of}
 use Rattle.cp_core.specs.Requests.{block_of}
-use Rattle.cp_core.specs.Calls.{Outcome, content_at, new_row, shard_step, settled, with_leaf, unless_settled}
-use Rattle.cp_core.specs.Calls.Outcome.{Same, New}
+use Rattle.cp_core.specs.Calls.{Effect, content_at, new_row, shard_step, settled, with_leaf, unless_settled}
+use Rattle.cp_core.specs.Calls.Effect.{Same, New}
 use Rattle.cp_core.specs.Machine.{step, step_in, after_call, appended, next_leaf}
 use Rattle.cp_core.specs.declared.answer.Answer.{Answer}
 use Rattle.cp_core.specs.declared.content.Content.{Content}
@@ -53,7 +53,7 @@ given_one n n' leaf e =
 -- ---- the step, by its leaf source's answers
 
 abbrev Step : Type 0
-Step = Result ℕ LeavesOver → Outcome
+Step = Result ℕ LeavesOver → Effect
 
 -- an answer that a leaf does not change is settled before
 same_always : (o : Option Answer) (store : List ℕ) (items : List Item) (c : List Content) (pass : ℕ) (request : Request) (leaf : ℕ) (answer : Answer) (other : Result ℕ LeavesOver)
@@ -63,7 +63,7 @@ same_always None store items c pass request leaf answer other e = absurd cc
 
 pub settled_always : (x : ShardModel) (pass : ℕ) (request : Request) (leaf : ℕ) (answer : Answer) (other : Result ℕ LeavesOver) → step_of x pass request (Ok leaf) ≡ Same answer → step_of x pass request other ≡ Same answer
 unfolding shard_step
-settled_always x pass request leaf answer other e = same_always (settled x.store x.pages x.items x.contents request) x.store x.items x.contents pass request leaf answer other e
+settled_always x pass request leaf answer other e = same_always (settled x.store x.pages x.first x.items x.contents request) x.store x.items x.contents pass request leaf answer other e
 
 leaf_always : (o : Option Answer) (store : List ℕ) (items : List Item) (c : List Content) (pass : ℕ) (request : Request) (leaf : ℕ) (answer : Answer) (row : RowItem) → unless_settled o (with_leaf store items c pass request (Ok leaf)) ≡ New answer row → row.leaf ≡ leaf
 leaf_always (Some a) store items c pass request leaf answer row e = absurd cc
@@ -72,7 +72,7 @@ leaf_always None store items c pass request leaf answer row e = let same : new_r
 -- the row that a leaf leads to has that leaf
 pub row_leaf : (x : ShardModel) (pass : ℕ) (request : Request) (leaf : ℕ) (answer : Answer) (row : RowItem) → step_of x pass request (Ok leaf) ≡ New answer row → row.leaf ≡ leaf
 unfolding shard_step
-row_leaf x pass request leaf answer row e = leaf_always (settled x.store x.pages x.items x.contents request) x.store x.items x.contents pass request leaf answer row e
+row_leaf x pass request leaf answer row e = leaf_always (settled x.store x.pages x.first x.items x.contents request) x.store x.items x.contents pass request leaf answer row e
 
 -- ---- the shard's step is the store's
 
@@ -87,17 +87,18 @@ pub items_here : (s : Store) (shards : List ShardModel) (k : ℕ) (d : ShardMode
 items_here s shards k d made lt = get_or-map (λ (x : ShardModel). x.items) shards k d [] (omega (arith, lt, made.sixteen))
 
 pub step_here : (s : Store) (shards : List ShardModel) (c : CloserState) (n pass : ℕ) (request : Request) (d : ShardModel) (leaf : Result ℕ LeavesOver) → AreMade s shards
-    → shard_step s.id s.pages (items_of (state_of shards c n).life (block_of request)) (state_of shards c n).contents pass request leaf ≡ step_of (here shards request d) pass request leaf
+    → shard_step s.id s.pages s.families (items_of (state_of shards c n).life (block_of request)) (state_of shards c n).contents pass request leaf ≡ step_of (here shards request d) pass request leaf
 step_here s shards c n pass request d leaf made =
     let x : ShardModel = here shards request d in
     let is : IsMade s (shard_of (block_of request)) x = made.each (shard_of (block_of request)) d (low (block_of request)) in
-    step_same s.id s.pages (items_of (state_of shards c n).life (block_of request)) (flat_map own_contents shards) x.contents pass request leaf (contents_there s shards (block_of request) d made)
-    ∙ ap (λ (xs : List Item). shard_step s.id s.pages xs x.contents pass request leaf) (items_here s shards (shard_of (block_of request)) d made (low (block_of request)))
-    ∙ ap (λ (id : List ℕ). shard_step id s.pages x.items x.contents pass request leaf) (sym is.store)
-    ∙ ap (λ (pages : ℕ). shard_step x.store pages x.items x.contents pass request leaf) (sym is.pages)
+    step_same s.id s.pages s.families (items_of (state_of shards c n).life (block_of request)) (flat_map own_contents shards) x.contents pass request leaf (contents_there s shards (block_of request) d made)
+    ∙ ap (λ (xs : List Item). shard_step s.id s.pages s.families xs x.contents pass request leaf) (items_here s shards (shard_of (block_of request)) d made (low (block_of request)))
+    ∙ ap (λ (id : List ℕ). shard_step id s.pages s.families x.items x.contents pass request leaf) (sym is.store)
+    ∙ ap (λ (pages : ℕ). shard_step x.store pages s.families x.items x.contents pass request leaf) (sym is.pages)
+    ∙ ap (λ (first : List ℕ). shard_step x.store x.pages first x.items x.contents pass request leaf) (sym is.first)
 
 -- the whole step, by the shard's
-pub call_is : (s : Store) (shards : List ShardModel) (c : CloserState) (n pass : ℕ) (request : Request) (d : ShardModel) (o : Outcome) → AreMade s shards → step_of (here shards request d) pass request (next_leaf s n) ≡ o
+pub call_is : (s : Store) (shards : List ShardModel) (c : CloserState) (n pass : ℕ) (request : Request) (d : ShardModel) (o : Effect) → AreMade s shards → step_of (here shards request d) pass request (next_leaf s n) ≡ o
     → step s (state_of shards c n) (Call pass request) ≡ after_call (state_of shards c n) request o
 unfolding step_in
 call_is s shards c n pass request d o made e = ap (after_call (state_of shards c n) request) (step_here s shards c n pass request d (next_leaf s n) made ∙ e)
@@ -110,14 +111,14 @@ next_none s n le = ap (λ (b : Bool). cond b (Ok n) (Err (record { drawn = n; li
 
 -- ---- the shards after a call
 
-pub made_set : (s : Store) (shards : List ShardModel) (k : ℕ) (d x : ShardModel) → AreMade s shards → k < 16 → x.store ≡ (get_or shards k d).store → x.index ≡ (get_or shards k d).index → x.pages ≡ (get_or shards k d).pages → x.closings ≡ (get_or shards k d).closings → AreMade s (set shards k x)
-made_set s shards k d x made lt store index pages closings = record { sixteen = length-set _ _ _ ∙ made.sixteen; each = each }
+pub made_set : (s : Store) (shards : List ShardModel) (k : ℕ) (d x : ShardModel) → AreMade s shards → k < 16 → x.store ≡ (get_or shards k d).store → x.index ≡ (get_or shards k d).index → x.pages ≡ (get_or shards k d).pages → x.closings ≡ (get_or shards k d).closings → x.first ≡ (get_or shards k d).first → AreMade s (set shards k x)
+made_set s shards k d x made lt store index pages closings first = record { sixteen = length-set _ _ _ ∙ made.sixteen; each = each }
   where
     old : IsMade s k (get_or shards k d)
     old = made.each k d lt
 
     now : IsMade s k x
-    now = record { store = store ∙ old.store; index = index ∙ old.index; pages = pages ∙ old.pages; closings = closings ∙ old.closings }
+    now = record { store = store ∙ old.store; index = index ∙ old.index; pages = pages ∙ old.pages; closings = closings ∙ old.closings; first = first ∙ old.first }
 
     each : (j : ℕ) (e : ShardModel) → j < 16 → IsMade s j (get_or (set shards k x) j e)
     each j e in16 = elim (cases_eq j k) [

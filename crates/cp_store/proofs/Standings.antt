@@ -7,13 +7,12 @@ use Rattle.cp_chain.proofs.Each.{each_last}
 use Rattle.cp_core.proofs.ContentLemmas.{contents_other}
 use Rattle.cp_core.proofs.LifeLemmas.{at_same}
 use Rattle.cp_core.proofs.RowLemmas.{spells_reads}
-use Rattle.cp_core.proofs.SealLemmas.{each_keeps}
 use Rattle.cp_core.specs.Booking.{Booking}
 use Rattle.cp_core.specs.Store.{Store, StoreFits}
 use Rattle.cp_core.specs.Life.{RowItem, row_item, freezes, items_of, shard_of}
 use Rattle.cp_core.specs.Requests.{block_of}
-use Rattle.cp_core.specs.Calls.{Outcome, content_at, latest_of}
-use Rattle.cp_core.specs.Calls.Outcome.{Same, New}
+use Rattle.cp_core.specs.Calls.{Effect, content_at, latest_of, added, answer_in}
+use Rattle.cp_core.specs.Calls.Effect.{Same, New}
 use Rattle.cp_core.specs.Leaves.{numbers_below}
 use Rattle.cp_core.specs.Honest.{Honest, IsItemOf, IsRowOf}
 use Rattle.cp_core.specs.Kept.{Keeps, PhaseFits, IsContentOf}
@@ -24,20 +23,22 @@ use Rattle.cp_core.specs.declared.call_refusal.CallRefusal.{CallRefusal}
 use Rattle.cp_core.specs.declared.call_refusal.CallRefusal.TheVariants as refusal
 use Rattle.cp_core.specs.declared.chronicle.Chronicle.{Chronicle}
 use Rattle.cp_core.specs.declared.content.Content.{Content}
+use Rattle.cp_core.specs.declared.item.Item.{Item}
 use Rattle.cp_core.specs.declared.event.Event.TheVariants.{Call}
 use Rattle.cp_core.specs.declared.leaves_over.LeavesOver.{LeavesOver}
 use Rattle.cp_core.specs.declared.phase.Phase.{Phase}
 use Rattle.cp_core.specs.declared.phase.Phase.TheVariants.{Running}
 use Rattle.cp_core.specs.declared.request.Request.{Request}
 use Rattle.cp_closer.specs.Closer.{CloserState}
-use Rattle.cp_closer.specs.Laws.{IsCloserOf}
+use Rattle.cp_closer.specs.Laws.{HaveFrozen, IsCloserOf}
 use Rattle.cp_shard.specs.Model.{ShardModel}
-use Rattle.cp_shard.specs.Steps.{answer_in, added, contents_after, drawn, step_of, AddsBelow}
+use Rattle.cp_shard.specs.Steps.{contents_after, drawn, step_of, AddsBelow}
 use Rattle.cp_store.specs.Alike.{Alike}
 use Rattle.cp_store.specs.Shards.{AreMade, own_contents, state_of, IsStanding}
 use Rattle.cp_store.specs.Served.{answered, IsBooked, IsRefused, IsServed}
 use Rattle.cp_store.proofs.Alikes.{alike_refl, alike_sym, alike_eq, with_contents, is_with, more_at}
-use Rattle.cp_store.proofs.Parts.{closer_row}
+use Rattle.cp_closer.proofs.Growing.{closer_stays, frozen_fits}
+use Rattle.cp_core.proofs.SealLemmas.{each_keeps, honest_stands}
 use Rattle.cp_store.proofs.ShardContents.{contents_there}
 use Rattle.cp_store.proofs.Serving.{given_none, given_one, settled_always, row_leaf, call_is, next_is, next_none, low, made_set, life_same, life_more, contents_set}
 
@@ -47,6 +48,7 @@ keeps_with : (s : Store) (b : State) (c : List Content) → ((block : ℕ) → c
 keeps_with s b c same k = record {
   honest = k.honest;
   phase = k.phase;
+  kept = k.kept;
   drawn = k.drawn;
   drawn_within = k.drawn_within;
   counted = k.counted;
@@ -59,12 +61,12 @@ keeps_alike s a b h k = subst (Keeps s) (sym (is_with b a (alike_sym a b h))) (k
 -- ---- the state after a call
 
 -- what the shard's contents are after an outcome
-abbrev After : ShardModel → ShardModel → Request → Outcome → Type 0
+abbrev After : ShardModel → ShardModel → Request → Effect → Type 0
 After x y request o = (block : ℕ) → content_at y.contents block ≡ content_at (contents_after o request x.contents) block
 
 same_alike : (s : Store) (shards : List ShardModel) (c : CloserState) (n k : ℕ) (d y : ShardModel) (request : Request) (answer : Answer) → AreMade s shards → AreMade s (set shards k y) → k < 16
     → y.items ≡ (get_or shards k d).items ++ [] → After (get_or shards k d) y request (Same answer) → Alike (state_of (set shards k y) c n) (state_of shards c n)
-same_alike s shards c n k d y request answer made now lt items contents = record { life = life_same shards c n k d y s made lt items; phase = refl; published = refl; drawn = refl; contents = at }
+same_alike s shards c n k d y request answer made now lt items contents = record { life = life_same shards c n k d y s made lt items; phase = refl; published = refl; kept = refl; drawn = refl; contents = at }
   where
     go : (b : ℕ) (t : Bool) → eqb (shard_of b) k ≡ t → cond t (content_at y.contents b) (content_at (flat_map own_contents shards) b) ≡ content_at (flat_map own_contents shards) b
     go b true e = contents b ∙ ap (λ (i : ℕ). content_at (get_or shards i d).contents b) (sym (eqb-true (shard_of b) k e)) ∙ sym (contents_there s shards b d made)
@@ -77,7 +79,7 @@ new_alike : (s : Store) (shards : List ShardModel) (c : CloserState) (n : ℕ) (
     → y.items ≡ (get_or shards (shard_of (block_of request)) d).items ++ row_item row ∷ [] → After (get_or shards (shard_of (block_of request)) d) y request (New answer row)
     → Alike (state_of (set shards (shard_of (block_of request)) y) c (n + 1)) (with_row (state_of shards c n) request (row_item row))
 new_alike s shards c n d y request answer row made now items contents =
-    record { life = life_more shards c (n + 1) n k d y (row_item row) s made lt items; phase = refl; published = refl; drawn = refl; contents = at }
+    record { life = life_more shards c (n + 1) n k d y (row_item row) s made lt items; phase = refl; published = refl; kept = refl; drawn = refl; contents = at }
   where
     k : ℕ
     k = shard_of (block_of request)
@@ -95,19 +97,11 @@ new_alike s shards c n d y request answer row made now items contents =
     at : (b : ℕ) → content_at (flat_map own_contents (set shards k y)) b ≡ content_at (with_content (flat_map own_contents shards) (content_in request)) b
     at b = contents_set s shards k d y b made now lt ∙ go b (eqb (shard_of b) k) refl
 
--- ---- the closer of the life after a call
+-- ---- the closer of the life with one more item
 
-running_count : (s : Store) (st : State) (e k : ℕ) → Keeps s st → st.phase ≡ Running e → k < 16 → freezes (get_or st.life.shards k []) + 1 ≡ e
-running_count s st e k keeps at lt =
-    let fits : PhaseFits s st.life (Running e) st.published = subst (λ (p : Phase). PhaseFits s st.life p st.published) at keeps.phase in
-    fits.0 k lt
-
-closer_new : (s : Store) (st : State) (c : CloserState) (e k : ℕ) (row : RowItem) → Keeps s st → IsCloserOf s st.life c → st.phase ≡ Running e → c.phase ≡ Running e → k < 16 → Honest s (appended st.life k (row_item row)) → IsCloserOf s (appended st.life k (row_item row)) c
-closer_new s st c e k row keeps of at phase lt honest =
-    let each = (honest.shards k lt).each in
-    let f : IsRowOf k (get_or st.life.shards k []) row = each_last (IsItemOf k) (get_or st.life.shards k []) (row_item row) (λ front x back h. each front x back (at_same st.life k (row_item row) keeps.honest.sixteen lt ∙ h)) in
-    let count = running_count s st e k keeps at lt in
-    closer_row s st.life c e k row f.entry of phase (omega (arith, count)) keeps.honest.sixteen lt (spells_reads row.entry f.entry f.spells) (f.epoch ∙ count)
+pub closer_more : (s : Store) (st : State) (c : CloserState) (k : ℕ) (item : Item) → Keeps s st → IsCloserOf s st.life c → c.phase ≡ st.phase → k < 16 → Honest s (appended st.life k item) → IsCloserOf s (appended st.life k item) c
+closer_more s st c k item keeps of at lt honest =
+    closer_stays s st.life c k (item ∷ []) of (subst (HaveFrozen st.life) (sym at) (frozen_fits s st.life st.kept st.phase st.published keeps.phase)) keeps.honest.sixteen lt (honest_stands s (appended st.life k item) honest)
 
 -- ---- a call
 
@@ -141,7 +135,7 @@ called_new s shards c n e pass request d y answer row fits st phase ok o now ite
     let alike : Alike (state_of (set shards k y) c (n + 1)) new = new_alike s shards c n d y request answer row st.made now items contents in
     let is : step s old (Call pass request) ≡ (answer, new) = call_is s shards c n pass request d (New answer row) st.made o in
     let kept : Keeps s new = subst (λ (x : Answer × State). Keeps s x.1) is (each_keeps s old (Call pass request) fits st.keeps ok) in
-    let closer : IsCloserOf s new.life c = closer_new s old c e k row st.keeps st.closer phase phase (low (block_of request)) kept.honest in
+    let closer : IsCloserOf s new.life c = closer_more s old c k (row_item row) st.keeps st.closer refl (low (block_of request)) kept.honest in
     record {
       standing = record { made = now; keeps = keeps_alike s _ new alike kept; closer = subst (λ (r : Chronicle). IsCloserOf s r c) (sym alike.life) closer };
       answer_is = sym (ap (λ (x : Answer × State). x.0) is);
@@ -155,27 +149,27 @@ abbrev pub IsServedStore : Store → List ShardModel → CloserState → ℕ →
 IsServedStore s shards c n pass request y n' (Some answer) = IsCalled s shards c n pass request (set shards (shard_of (block_of request)) y) n' answer
 IsServedStore s shards c n pass request y n' None = IsStanding s (set shards (shard_of (block_of request)) y) c n' × Alike (state_of (set shards (shard_of (block_of request)) y) c n') (state_of shards c n)
 
-booked_case : (s : Store) (shards : List ShardModel) (c : CloserState) (n n' e pass : ℕ) (request : Request) (d y : ShardModel) (b : Booking) (o : Outcome) → StoreFits s → IsStanding s shards c n → c.phase ≡ Running e → Admissible s (Call pass request)
+booked_case : (s : Store) (shards : List ShardModel) (c : CloserState) (n n' e pass : ℕ) (request : Request) (d y : ShardModel) (b : Booking) (o : Effect) → StoreFits s → IsStanding s shards c n → c.phase ≡ Running e → Admissible s (Call pass request)
     → IsBooked (get_or shards (shard_of (block_of request)) d) y n n' s.attestations pass request b → step_of (get_or shards (shard_of (block_of request)) d) pass request (Ok b.leaf) ≡ o
     → IsCalled s shards c n pass request (set shards (shard_of (block_of request)) y) n' (Booked b)
 booked_case s shards c n n' e pass request d y b (Same answer) fits st phase ok h is =
     let k : ℕ = shard_of (block_of request) in
     let x : ShardModel = get_or shards k d in
-    let now = made_set s shards k d y st.made (low (block_of request)) h.store h.index h.pages h.closings in
-    let none : n' ≡ n = given_none n n' (h.given ∙ ap (λ (o : Outcome). numbers_below n ++ drawn o b.leaf) is ∙ append-nil _) in
+    let now = made_set s shards k d y st.made (low (block_of request)) h.store h.index h.pages h.closings h.first in
+    let none : n' ≡ n = given_none n n' (h.given ∙ ap (λ (o : Effect). numbers_below n ++ drawn o b.leaf) is ∙ append-nil _) in
     let answer_is : answer ≡ Booked b = sym (ap answer_in is) ∙ h.answer in
-    let r = called_same s shards c n pass request d y answer st (settled_always x pass request b.leaf answer (next_leaf s n) is) now (h.items ∙ ap (λ (o : Outcome). x.items ++ added o) is) (λ block. h.contents block ∙ ap (λ (o : Outcome). content_at (contents_after o request x.contents) block) is) in
+    let r = called_same s shards c n pass request d y answer st (settled_always x pass request b.leaf answer (next_leaf s n) is) now (h.items ∙ ap (λ (o : Effect). x.items ++ added o) is) (λ block. h.contents block ∙ ap (λ (o : Effect). content_at (contents_after o request x.contents) block) is) in
     subst (λ (m : ℕ). IsCalled s shards c n pass request (set shards k y) m (Booked b)) (sym none) (subst (IsCalled s shards c n pass request (set shards k y) n) answer_is r)
 booked_case s shards c n n' e pass request d y b (New answer row) fits st phase ok h is =
     let k : ℕ = shard_of (block_of request) in
     let x : ShardModel = get_or shards k d in
-    let now = made_set s shards k d y st.made (low (block_of request)) h.store h.index h.pages h.closings in
-    let one = given_one n n' b.leaf (h.given ∙ ap (λ (o : Outcome). numbers_below n ++ drawn o b.leaf) is) in
-    let below : row.leaf < s.attestations = subst (λ (o : Outcome). AddsBelow o s.attestations) is h.below in
+    let now = made_set s shards k d y st.made (low (block_of request)) h.store h.index h.pages h.closings h.first in
+    let one = given_one n n' b.leaf (h.given ∙ ap (λ (o : Effect). numbers_below n ++ drawn o b.leaf) is) in
+    let below : row.leaf < s.attestations = subst (λ (o : Effect). AddsBelow o s.attestations) is h.below in
     let answer_is : answer ≡ Booked b = sym (ap answer_in is) ∙ h.answer in
     let lt : n < s.attestations = omega (arith, below, row_leaf x pass request b.leaf answer row is, one.1) in
     let next : Ok b.leaf ≡ next_leaf s n = ap Ok one.1 ∙ sym (next_is s n lt) in
-    let r = called_new s shards c n e pass request d y answer row fits st phase ok (ap (step_of x pass request) (sym next) ∙ is) now (h.items ∙ ap (λ (o : Outcome). x.items ++ added o) is) (λ block. h.contents block ∙ ap (λ (o : Outcome). content_at (contents_after o request x.contents) block) is) in
+    let r = called_new s shards c n e pass request d y answer row fits st phase ok (ap (step_of x pass request) (sym next) ∙ is) now (h.items ∙ ap (λ (o : Effect). x.items ++ added o) is) (λ block. h.contents block ∙ ap (λ (o : Effect). content_at (contents_after o request x.contents) block) is) in
     subst (λ (m : ℕ). IsCalled s shards c n pass request (set shards k y) m (Booked b)) (sym one.0) (subst (IsCalled s shards c n pass request (set shards k y) (n + 1)) answer_is r)
 
 -- the shards where one is put back as it was
@@ -212,6 +206,8 @@ refused_case s shards c n n' pass request d y (refusal.LeavesOver over) st h =
     let next : next_leaf s n ≡ Err over = over_is s n n' over none h.refuses.1 h.refuses.2 h.refuses.3 in
     refused_called s shards c n n' pass request d y (CallRefused (refusal.LeavesOver over)) st h.same none (ap (step_of (get_or shards (shard_of (block_of request)) d) pass request) next ∙ h.refuses.0)
 refused_case s shards c n n' pass request d y (refusal.WrongEpoch current) st h = refused_called s shards c n n' pass request d y (CallRefused (refusal.WrongEpoch current)) st h.same (given_none n n' h.given) (h.refuses (next_leaf s n))
+refused_case s shards c n n' pass request d y (refusal.NotAWriter family client) st h = refused_called s shards c n n' pass request d y (CallRefused (refusal.NotAWriter family client)) st h.same (given_none n n' h.given) (h.refuses (next_leaf s n))
+refused_case s shards c n n' pass request d y refusal.BadSignature st h = refused_called s shards c n n' pass request d y (CallRefused refusal.BadSignature) st h.same (given_none n n' h.given) (h.refuses (next_leaf s n))
 refused_case s shards c n n' pass request d y (refusal.NonceUsed at) st h = refused_called s shards c n n' pass request d y (CallRefused (refusal.NonceUsed at)) st h.same (given_none n n' h.given) (h.refuses (next_leaf s n))
 refused_case s shards c n n' pass request d y (refusal.Overtaken latest) st h = refused_called s shards c n n' pass request d y (CallRefused (refusal.Overtaken latest)) st h.same (given_none n n' h.given) (h.refuses (next_leaf s n))
 refused_case s shards c n n' pass request d y (refusal.StaleVersion latest) st h = refused_called s shards c n n' pass request d y (CallRefused (refusal.StaleVersion latest)) st h.same (given_none n n' h.given) (h.refuses (next_leaf s n))

@@ -1,8 +1,6 @@
 -- How a store by shards is seen, and what it keeps (this project's own). No public clause cites this
 -- module.
-use Rattle.std.specs.Prelude.{IsOk}
-use Rattle.cp_families.specs.Families.{families_of}
-use Rattle.cp_core.specs.Store.{Store, StoreFits}
+use Rattle.cp_core.specs.Store.{Store}
 use Rattle.cp_core.specs.View.{Standing}
 use Rattle.cp_store.specs.Running.{IsOpen}
 use Rattle.cp_store.specs.Shards.{state_of, IsStanding}
@@ -17,5 +15,3 @@ standing_of a = record { store = store_of a; state = state_of a.shards.items a.c
 pub record IsSharded (a : Inside) : Type 0 where
   pub standing : IsStanding (store_of a) a.shards.items a.closer a.leaves
   pub between : IsOpen (standing_of a)
-  pub fits : StoreFits (store_of a)
-  pub list : IsOk (families_of a.families)

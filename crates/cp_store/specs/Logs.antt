@@ -1,6 +1,5 @@
 -- What the log of an epoch is made of (this project's own). No public clause cites this module.
-use Rattle.std.specs.Prelude.{ℕ, ◌<◌, ◌^◌, List, [], length, get_or, filter}
-use Rattle.std.specs.List.{AllByRecursion}
+use Rattle.std.specs.Prelude.{ℕ, List, [], get_or, filter}
 use Rattle.cp_chain.specs.Log.{LogPart}
 use Rattle.cp_core.specs.Life.{RowItem, rows_in, is_of_epoch, in_epoch, entries, shard_of}
 use Rattle.cp_core.specs.declared.item.Item.{Item}
@@ -16,7 +15,3 @@ texts_at items b n = entries (in_epoch items b n)
 -- the block's part of the log
 abbrev pub part_at : List (List Item) → ℕ → ℕ → LogPart
 part_at shards n b = record { block = b; texts = texts_at (get_or shards (shard_of b) []) b n }
-
--- each text has a length of four bytes
-abbrev pub HasShortRows : List Item → Type 0
-HasShortRows items = AllByRecursion (λ row. length row.entry < 2 ^ 32) (rows_in items)

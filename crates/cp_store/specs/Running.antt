@@ -1,7 +1,7 @@
 -- What every store keeps (this project's own).
-use Rattle.std.specs.Prelude.{ℕ, ◌+◌, ◌<◌, ◌≤◌, ◌^◌, ◌≡◌}
-use Rattle.cp_core.specs.Store.{Store}
-use Rattle.cp_core.specs.View.{Standing}
+use Rattle.std.specs.Prelude.{ℕ, ◌+◌, ◌<◌, ◌≤◌, ◌^◌, ◌≡◌, List}
+use Rattle.cp_core.specs.Store.{Store, StoreFits}
+use Rattle.cp_core.specs.View.{Standing, opened}
 use Rattle.cp_core.specs.declared.phase.Phase.{Phase}
 use Rattle.cp_core.specs.declared.phase.Phase.TheVariants.{Running}
 
@@ -16,4 +16,9 @@ pub record HasFewLeaves (s : Store) : Type 0 where
 
 pub record IsOpen (x : Standing) : Type 0 where
   pub running : IsRunning x.state.phase
+  pub fits : StoreFits x.store
   pub few : HasFewLeaves x.store
+
+-- a store before any event, made with these
+abbrev pub made_with : List ℕ → List ℕ → ℕ → ℕ → ℕ → Standing
+made_with id families attestations closings pages = opened (record { id = id; families = families; attestations = attestations; closings = closings; pages = pages })

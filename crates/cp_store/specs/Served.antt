@@ -1,7 +1,13 @@
 -- What a call at a shard leads to (this project's own). No public clause cites this module.
-use Rattle.std.specs.Prelude.{ℕ, ◌≡◌, ◌++◌, Option, Some, None, Result, Ok, Err}
+use Rattle.std.specs.Prelude.{ℕ, ◌≡◌, ◌++◌, List, Option, Some, None, Result, Ok, Err}
 use Rattle.cp_core.specs.Booking.{Booking}
-use Rattle.cp_core.specs.Calls.{content_at}
+use Rattle.cp_core.specs.Calls.{content_at, epoch_now, writers_key, added, answer_in}
+use Rattle.cp_core.specs.Calls.Effect.{Same}
+use Rattle.cp_core.specs.declared.leaves_over.LeavesOver.{LeavesOver}
+use Rattle.cp_core.specs.declared.request.Request.TheVariants as request
+use Rattle.cp_families.specs.Checking.{SignedPut}
+use Rattle.cp_statements.specs.View.{put_request_view}
+use Rattle.cp_statements.specs.declared.put_request.PutRequest.{PutRequest}
 use Rattle.cp_core.specs.Leaves.{numbers_below}
 use Rattle.cp_core.specs.declared.answer.Answer.{Answer}
 use Rattle.cp_core.specs.declared.answer.Answer.TheVariants.{Booked, CallRefused}
@@ -9,13 +15,24 @@ use Rattle.cp_core.specs.declared.call_refusal.CallRefusal.{CallRefusal}
 use Rattle.cp_core.specs.declared.call_refusal.CallRefusal.TheVariants as refusal
 use Rattle.cp_core.specs.declared.request.Request.{Request}
 use Rattle.cp_shard.specs.Model.{ShardModel}
-use Rattle.cp_shard.specs.Steps.{answer_in, added, contents_after, drawn, step_of, AddsBelow, Refuses}
+use Rattle.cp_shard.specs.Steps.{contents_after, drawn, step_of, AddsBelow, Refuses}
 
 -- the answer that it stands for; none where memory is wanted
 abbrev pub answered : Result Booking CallRefusal → Option Answer
 answered (Ok booking) = Some (Booked booking)
 answered (Err refusal.OutOfMemory) = None
 answered (Err why) = Some (CallRefused why)
+
+-- the put is that of the request, which names the shard's epoch, and its key is the writer's in that epoch
+pub record IsWritten (shard : ShardModel) (r : PutRequest) (signature : List ℕ) (p : SignedPut) : Type 0 where
+  pub request : p.request ≡ put_request_view r
+  pub signed : p.signature ≡ signature
+  pub epoch : r.epoch ≡ epoch_now shard.items
+  pub key : writers_key shard.first shard.items (put_request_view r) ≡ Some p.key
+
+-- the shard's step refuses the request with any content so, whatever its leaf source answers
+abbrev pub RefusesPut : ShardModel → PutRequest → List ℕ → CallRefusal → Type 0
+RefusesPut shard r signature why = (pass : ℕ) (content : List ℕ) (leaf : Result ℕ LeavesOver) → step_of shard pass (request.Put r signature content) leaf ≡ Same (CallRefused why)
 
 -- the shard booked the call by its step, and the counter gave the leaf's number, which is below the limit
 pub record IsBooked (old new : ShardModel) (before after limit pass : ℕ) (request : Request) (b : Booking) : Type 0 where
@@ -28,6 +45,7 @@ pub record IsBooked (old new : ShardModel) (before after limit pass : ℕ) (requ
   pub index : new.index ≡ old.index
   pub pages : new.pages ≡ old.pages
   pub closings : new.closings ≡ old.closings
+  pub first : new.first ≡ old.first
 
 -- the shard refused it by its step, and nothing changed
 pub record IsRefused (old new : ShardModel) (before after limit pass : ℕ) (request : Request) (why : CallRefusal) : Type 0 where

@@ -16,6 +16,7 @@ pub record IsMade (s : Store) (k : ℕ) (x : ShardModel) : Type 0 where
   pub index : x.index ≡ k
   pub pages : x.pages ≡ s.pages
   pub closings : x.closings ≡ s.closings
+  pub first : x.first ≡ s.families
 
 -- the store's sixteen shards
 pub record AreMade (s : Store) (shards : List ShardModel) : Type 0 where
@@ -36,6 +37,7 @@ state_of shards c drawn = record {
   contents = flat_map own_contents shards;
   phase = c.phase;
   published = epoch_of c.phase - 1;
+  kept = c.next;
   drawn = drawn;
 }
 
@@ -46,5 +48,5 @@ pub record IsStanding (s : Store) (shards : List ShardModel) (c : CloserState) (
   pub closer : IsCloserOf s (state_of shards c drawn).life c
 
 -- a shard without an item
-abbrev pub blank_shard : List ℕ → ℕ → ℕ → ℕ → ShardModel
-blank_shard id pages closings k = record { store = id; index = k; pages = pages; closings = closings; items = []; contents = [] }
+abbrev pub blank_shard : List ℕ → ℕ → ℕ → List ℕ → ℕ → ShardModel
+blank_shard id pages closings first k = record { store = id; index = k; pages = pages; closings = closings; first = first; items = []; contents = [] }

@@ -1,20 +1,15 @@
 //! The closing of an epoch by shards and a closer.
-ghost use Rattle.std.specs.Prelude.{ℕ, ◌≡◌, ◌≤◌, ◌∷◌, ◌++◌, [], IfOk, OnOk};
-ghost use Rattle.cp_closer.specs.Closer.{IsNextPart, after_take};
+ghost use Rattle.std.specs.Prelude.{◌≡◌, ◌≤◌, IfOk, OnOk};
+ghost use Rattle.cp_closer.specs.Closer.{IsNextPart};
 ghost use Rattle.cp_core.specs.Calls.{epoch_now};
-ghost use Rattle.cp_core.specs.Frozen.{frozen_part};
-ghost use Rattle.cp_core.specs.Machine.{State};
-ghost use Rattle.cp_core.specs.Store.{Store, StoreFits};
-ghost use Rattle.cp_core.specs.declared.item.Item.TheVariants.{Frozen};
-ghost use Rattle.cp_store.specs.Freezes.{AreFrozenTo, IsFinished, IsFrozenTo};
-ghost use Rattle.cp_store.specs.Running.{HasFewLeaves};
+ghost use Rattle.cp_store.specs.Freezes.{AreFrozenTo, Finishes, FreezesAll, IsTaken, frozen_shard, part_with};
 
 use crate::{OutOfMemory, SealedText};
 use cp_closer::Closer;
 use cp_shard::Shard;
 use std::alloc::Global;
 
-/// The shard ends the epoch, and hands its part over.
+// The shard ends the epoch, and the closer's list is the next one's; the shard hands its part over.
 fn freeze_one(
     alloc: Global,
     shard: &mut Shard,
@@ -23,17 +18,18 @@ fn freeze_one(
 ) -> Result<(), OutOfMemory>
     requires now { epoch_now shard.old.items ≡ epoch }
     requires room { epoch_now shard.old.items ≤ shard.old.closings }
-    requires next { IsNextPart closer.old (frozen_part shard.old.index (shard.old.items ++ Frozen epoch ∷ []) epoch) }
-    ensures shard { shard.new ≡ record shard.old { items = shard.old.items ++ Frozen epoch ∷ [] } }
-    ensures closer { OnOk result (closer.new ≡ after_take closer.old (frozen_part shard.old.index (shard.old.items ++ Frozen epoch ∷ []) epoch)) }
+    requires next { IsNextPart closer.old (part_with shard.old epoch closer.old.next) }
+    ensures shard { OnOk result (shard.new ≡ frozen_shard shard.old epoch closer.old.next) }
+    ensures closer { OnOk result (IsTaken closer.old closer.new shard.old epoch) }
 {
-    shard.freeze();
+    let next = closer.next().share()?;
+    shard.freeze(next);
     let part = shard.frozen(alloc, epoch)?;
     closer.take(part);
     Ok(())
 }
 
-/// All shards end the epoch, one after another.
+// All shards end the epoch, one after another.
 fn freeze_all(
     alloc: Global,
     shards: &mut Vec<Shard>,
@@ -41,7 +37,8 @@ fn freeze_all(
     epoch: u64,
 ) -> Result<(), OutOfMemory>
     requires { AreFrozenTo shards.old.items closer.old epoch 0 }
-    ensures { OnOk result ((s : Store) (st : State) (n : ℕ) → StoreFits s → HasFewLeaves s → IsFrozenTo s st shards.old.items closer.old n epoch 0 → IsFrozenTo s st shards.new.items closer.new n epoch 16) }
+    ensures { OnOk result
+        (FreezesAll shards.old.items closer.old shards.new.items closer.new epoch) }
 {
     for shard in 0..16 {
         freeze_one(alloc, &mut shards[shard], closer, epoch)?;
@@ -49,7 +46,7 @@ fn freeze_all(
     Ok(())
 }
 
-/// What was sealed, once more.
+// What was sealed, once more.
 fn copy_of(alloc: Global, sealed: &SealedText) -> Result<SealedText, OutOfMemory>
     ensures { IfOk result (λ text. text ≡ sealed.now) }
 {
@@ -63,20 +60,18 @@ fn copy_of(alloc: Global, sealed: &SealedText) -> Result<SealedText, OutOfMemory
     })
 }
 
-/// The rest of a closing that has begun: all shards end the epoch, it is sealed under the families
-/// list's text, and published.
+// The rest of a closing that has begun: all shards end the epoch, it is sealed, and published.
 pub(crate) fn finish(
     alloc: Global,
     shards: &mut Vec<Shard>,
     closer: &mut Closer,
-    families: &[u8],
     epoch: u64,
 ) -> Result<SealedText, OutOfMemory>
     requires { AreFrozenTo shards.old.items closer.old epoch 0 }
-    ensures { IfOk result (λ sealed. (s : Store) (st : State) (n : ℕ) → StoreFits s → HasFewLeaves s → s.families ≡ families.now → IsFrozenTo s st shards.old.items closer.old n epoch 0 → IsFinished s st shards.new.items closer.new n epoch sealed) }
+    ensures { IfOk result (Finishes shards.old.items closer.old shards.new.items closer.new epoch) }
 {
     freeze_all(alloc, shards, closer, epoch)?;
-    closer.seal(alloc, families)?;
+    closer.seal(alloc)?;
     let sealed = copy_of(alloc, closer.sealed())?;
     closer.published();
     Ok(sealed)

@@ -4,18 +4,21 @@ ghost use Rattle.cp_chain.specs.Log.{log_text, log_part_text};
 ghost use Rattle.cp_core.specs.Frozen.{blocks_in};
 ghost use Rattle.cp_core.specs.Life.{RowItem, rows_in};
 ghost use Rattle.cp_core.specs.Sealing.{blocks_of};
-ghost use Rattle.cp_store.specs.Logs.{HasShortRows, part_at, rows_at};
+ghost use Rattle.cp_shard.specs.Laws.{HasShortRows};
+ghost use Rattle.cp_store.specs.Logs.{part_at, rows_at};
 
 use crate::OutOfMemory;
 use crate::segment::add_segment;
+use cp_closer::start_log;
 use cp_core::{Item, Items};
 use cp_statements::Entry;
 use std::alloc::Global;
 use std::collections::BTreeSet;
 
-/// Adds the item's block, where the item is a row of the epoch.
+// Adds the item's block, where the item is a row of the epoch.
 fn add_item(blocks: &mut BTreeSet<u64>, item: &Item, epoch: u64) -> Result<(), OutOfMemory>
-    ensures { OnOk result ((rest : List RowItem) → blocks.old.keys ≡ blocks_of rest → blocks.new.keys ≡ blocks_of (rows_at epoch (item.now ∷ []) ++ rest)) }
+    ensures { OnOk result ((rest : List RowItem) → blocks.old.keys ≡ blocks_of rest
+        → blocks.new.keys ≡ blocks_of (rows_at epoch (item.now ∷ []) ++ rest)) }
 {
     let Item::Row { entry, .. } = item else {
         return Ok(());
@@ -30,9 +33,10 @@ fn add_item(blocks: &mut BTreeSet<u64>, item: &Item, epoch: u64) -> Result<(), O
     Ok(())
 }
 
-/// Adds the blocks of a shard's entries of the epoch, from its last item to its first.
+// Adds the blocks of a shard's entries of the epoch, from its last item to its first.
 fn add_items(blocks: &mut BTreeSet<u64>, items: &[Item], epoch: u64) -> Result<(), OutOfMemory>
-    ensures { OnOk result ((rest : List RowItem) → blocks.old.keys ≡ blocks_of rest → blocks.new.keys ≡ blocks_of (rows_at epoch items.now ++ rest)) }
+    ensures { OnOk result ((rest : List RowItem) → blocks.old.keys ≡ blocks_of rest
+        → blocks.new.keys ≡ blocks_of (rows_at epoch items.now ++ rest)) }
 {
     for i in 0..items.len() {
         add_item(blocks, &items[items.len() - 1 - i], epoch)?;
@@ -40,7 +44,7 @@ fn add_items(blocks: &mut BTreeSet<u64>, items: &[Item], epoch: u64) -> Result<(
     Ok(())
 }
 
-/// The blocks with an entry of the epoch, ascending.
+// The blocks with an entry of the epoch, ascending.
 fn blocks_at(alloc: Global, shards: &[Items], epoch: u64) -> Result<BTreeSet<u64>, OutOfMemory>
     ensures { IfOk result (λ blocks. blocks.keys ≡ blocks_in (flat_map rows_in shards.now) epoch) }
 {
@@ -51,7 +55,7 @@ fn blocks_at(alloc: Global, shards: &[Items], epoch: u64) -> Result<BTreeSet<u64
     Ok(blocks)
 }
 
-/// Appends the segments of these blocks.
+// Appends the segments of these blocks.
 fn add_segments(
     out: &mut Vec<u8>,
     blocks: &BTreeSet<u64>,
@@ -61,7 +65,8 @@ fn add_segments(
     requires sixteen { length shards.now ≡ 16 }
     requires short { (k : ℕ) → k < 16 → HasShortRows (get_or shards.now k []) }
     requires few { (k : ℕ) → k < 16 → length (rows_in (get_or shards.now k [])) ≤ 2 ^ 27 }
-    ensures { OnOk result (out.new.items ≡ out.old.items ++ flat_map log_part_text (map (part_at shards.now epoch) blocks.now.keys)) }
+    ensures { OnOk result (out.new.items ≡ out.old.items ++ flat_map log_part_text
+        (map (part_at shards.now epoch) blocks.now.keys)) }
 {
     for block in blocks {
         add_segment(
@@ -74,18 +79,21 @@ fn add_segments(
     Ok(())
 }
 
-/// The log's text, of sixteen shards with at most 2^27 rows each.
+// The log's text, of sixteen shards with at most 2^27 rows each.
 pub(crate) fn log(alloc: Global, shards: &[Items], epoch: u64) -> Result<Vec<u8>, OutOfMemory>
     requires sixteen { length shards.now ≡ 16 }
     requires short { (k : ℕ) → k < 16 → HasShortRows (get_or shards.now k []) }
     requires few { (k : ℕ) → k < 16 → length (rows_in (get_or shards.now k [])) ≤ 2 ^ 27 }
-    ensures { IfOk result (λ out. out.items ≡ log_text (record { epoch = epoch; parts = map (part_at shards.now epoch) (blocks_in (flat_map rows_in shards.now) epoch) })) }
+    ensures { IfOk result (λ out. out.items ≡ log_text
+        (record {
+          epoch = epoch;
+          parts = map (part_at shards.now epoch)
+              (blocks_in (flat_map rows_in shards.now) epoch);
+        })) }
 {
     let blocks = blocks_at(alloc, shards, epoch)?;
-    let mut out = Vec::from_slice(alloc, b"CPl1")?;
-    out.extend_from_slice(&epoch.to_be_bytes())?;
     let count = blocks.len() as u32;
-    out.extend_from_slice(&count.to_be_bytes())?;
+    let mut out = start_log(alloc, epoch, count)?;
     add_segments(&mut out, &blocks, shards, epoch)?;
     Ok(out)
 }

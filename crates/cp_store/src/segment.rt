@@ -4,14 +4,16 @@ ghost use Rattle.cp_bytes.specs.Fields.{part};
 ghost use Rattle.cp_chain.specs.Log.{log_part_text};
 ghost use Rattle.cp_chain.specs.Segment.{segment_text};
 ghost use Rattle.cp_core.specs.Life.{rows_in};
-ghost use Rattle.cp_store.specs.Logs.{HasShortRows, texts_at};
+ghost use Rattle.cp_shard.specs.Laws.{HasShortRows};
+ghost use Rattle.cp_store.specs.Logs.{texts_at};
 ghost use Rattle.std.specs.Prelude.{flat_map};
 
 use cp_bytes::OutOfMemory;
+use cp_closer::{add_text, start_segment};
 use cp_core::Item;
 use cp_statements::Entry;
 
-/// The item's text, where it is a row of the block and epoch.
+// The item's text, where it is a row of the block and epoch.
 #[tactic(auto, unfolding(cp_core::specs::Life::in_epoch, cp_core::specs::Life::rows_of))]
 fn text_in(item: &Item, block: u64, epoch: u64) -> Option<&[u8]>
     requires { HasShortRows (item.now ∷ []) }
@@ -32,7 +34,7 @@ fn text_in(item: &Item, block: u64, epoch: u64) -> Option<&[u8]>
     Some(text)
 }
 
-/// 1 where the item is a row of the block and epoch, else 0.
+// 1 where the item is a row of the block and epoch, else 0.
 fn count_of(item: &Item, block: u64, epoch: u64) -> usize
     requires { HasShortRows (item.now ∷ []) }
     ensures count { result ≡ length (texts_at (item.now ∷ []) block epoch) }
@@ -44,7 +46,7 @@ fn count_of(item: &Item, block: u64, epoch: u64) -> usize
     }
 }
 
-/// The number of the block's entries of the epoch.
+// The number of the block's entries of the epoch.
 fn count_in(items: &[Item], block: u64, epoch: u64) -> usize
     requires { HasShortRows items.now }
     ensures { result ≡ length (texts_at items.now block epoch) }
@@ -56,21 +58,11 @@ fn count_in(items: &[Item], block: u64, epoch: u64) -> usize
     count
 }
 
-/// Appends a text with its length.
-fn add_text(out: &mut Vec<u8>, text: &[u8]) -> Result<(), OutOfMemory>
-    requires { length text.now < 2 ^ 32 }
-    ensures { OnOk result (out.new.items ≡ out.old.items ++ part text.now) }
-{
-    let len = text.len() as u32;
-    out.extend_from_slice(&len.to_be_bytes())?;
-    out.extend_from_slice(text)?;
-    Ok(())
-}
-
-/// Appends the text of the item with its length, where the item is a row of the block and epoch.
+// Appends the text of the item with its length, where the item is a row of the block and epoch.
 fn add_item(out: &mut Vec<u8>, item: &Item, block: u64, epoch: u64) -> Result<(), OutOfMemory>
     requires { HasShortRows (item.now ∷ []) }
-    ensures { OnOk result (out.new.items ≡ out.old.items ++ flat_map part (texts_at (item.now ∷ []) block epoch)) }
+    ensures { OnOk result (out.new.items ≡ out.old.items ++ flat_map part
+        (texts_at (item.now ∷ []) block epoch)) }
 {
     match text_in(item, block, epoch) {
         Some(text) => add_text(out, text),
@@ -78,10 +70,11 @@ fn add_item(out: &mut Vec<u8>, item: &Item, block: u64, epoch: u64) -> Result<()
     }
 }
 
-/// Appends the texts of the block's entries of the epoch, each with its length.
+// Appends the texts of the block's entries of the epoch, each with its length.
 fn add_texts(out: &mut Vec<u8>, items: &[Item], block: u64, epoch: u64) -> Result<(), OutOfMemory>
     requires { HasShortRows items.now }
-    ensures { OnOk result (out.new.items ≡ out.old.items ++ flat_map part (texts_at items.now block epoch)) }
+    ensures { OnOk result (out.new.items ≡ out.old.items ++ flat_map part
+        (texts_at items.now block epoch)) }
 {
     for item in items {
         add_item(out, item, block, epoch)?;
@@ -89,7 +82,7 @@ fn add_texts(out: &mut Vec<u8>, items: &[Item], block: u64, epoch: u64) -> Resul
     Ok(())
 }
 
-/// Appends the block and the segment of its entries of the epoch.
+// Appends the block and the segment of its entries of the epoch.
 pub(crate) fn add_segment(
     out: &mut Vec<u8>,
     items: &[Item],
@@ -98,10 +91,10 @@ pub(crate) fn add_segment(
 ) -> Result<(), OutOfMemory>
     requires short { HasShortRows items.now }
     requires few { length (rows_in items.now) < 2 ^ 32 }
-    ensures { OnOk result (out.new.items ≡ out.old.items ++ log_part_text (record { block = block; texts = texts_at items.now block epoch })) }
+    ensures { OnOk result (out.new.items ≡ out.old.items ++ log_part_text
+        (record { block = block; texts = texts_at items.now block epoch })) }
 {
     let count = count_in(items, block, epoch) as u32;
-    out.extend_from_slice(&block.to_be_bytes())?;
-    out.extend_from_slice(&count.to_be_bytes())?;
+    start_segment(out, block, count)?;
     add_texts(out, items, block, epoch)
 }

@@ -1,19 +1,21 @@
 //! The store.
-ghost use Rattle.std.specs.Prelude.{◌≡◌, ◌<◌, ◌≤◌, ◌+◌, ◌^◌, IsOk, IfOk, OnOk, OnErr};
-ghost use Rattle.cp_core.specs.Machine.{Admissible, opening, step};
+ghost use Rattle.std.specs.Prelude.{◌≡◌, ◌<◌, ◌≤◌, ◌+◌, ◌^◌, IfOk, OnOk, OnErr};
+ghost use Rattle.cp_core.specs.Machine.{Admissible, SpellsNext};
+ghost use Rattle.cp_core.specs.Store.{SpellsFamilies};
 ghost use Rattle.cp_core.specs.declared.event.Event.TheVariants.{Call};
 ghost use Rattle.cp_core.specs.declared.phase.Phase.TheVariants.{Running};
-ghost use Rattle.cp_families.specs.Families.{families_of};
-ghost use Rattle.cp_store.specs.Alike.{Alike};
+ghost use Rattle.cp_store.specs.Alike.{Alike, IsAfter, IsAnswer};
 ghost use Rattle.cp_store.specs.Closes.{Closes};
+ghost use Rattle.cp_store.specs.Running.{made_with};
 
 use crate::plain::Plain;
 use crate::sharded::Sharded;
 use crate::{Answer, By, CloseRefusal, OutOfMemory, Request, SealedText};
+use cp_bytes::Bytes;
 use std::alloc::Global;
 use std::marker::Model;
 
-/// What serves the store.
+// What serves the store.
 #[derive(Drop)]
 enum Body {
     Core(Plain),
@@ -37,8 +39,8 @@ impl Model for Store {
 }
 
 impl Store {
-    /// A store before any call, in epoch 1. `store` is SHA-256 of its key, `families` the text of its
-    /// families list, the key has `attestations` leaves for attestations and after them `closings` for
+    /// A store before any call, in epoch 1. `store` is SHA-256 of its key, `families` the text of the
+    /// families list of epoch 1, the key has `attestations` leaves for attestations and after them `closings` for
     /// closings, and each shard has `pages` pages of 1,024 bytes.
     pub fn open(
         alloc: Global,
@@ -49,10 +51,11 @@ impl Store {
         closings: u64,
         pages: u32,
     ) -> Result<Store, OutOfMemory>
-        requires families { IsOk (families_of families.items) }
+        requires families { SpellsFamilies families.items }
         requires leaves { attestations + closings < 2 ^ 32 }
         requires few { attestations ≤ 2 ^ 27 }
-        ensures { IfOk result (λ s. s ≡ record { store = record { id = store; families = families.items; attestations = attestations; closings = closings; pages = pages }; state = opening }) }
+        ensures { IfOk result (λ s. s
+            ≡ made_with store families.items attestations closings pages) }
     {
         let body = match by {
             By::Core => Body::Core(Plain::open(
@@ -95,8 +98,8 @@ impl Store {
         request: Request,
     ) -> Result<Answer, OutOfMemory>
         requires { Admissible self.old.store (Call pass request) }
-        ensures answer { IfOk result (λ answer. answer ≡ (step self.old.store self.old.state (Call pass request)).0) }
-        ensures after { OnOk result (Alike self.new.state (step self.old.store self.old.state (Call pass request)).1) }
+        ensures answer { IfOk result (IsAnswer self.old (Call pass request)) }
+        ensures after { OnOk result (IsAfter self.old (Call pass request) self.new) }
         ensures unchanged { OnErr result (Alike self.new.state self.old.state) }
         ensures store { self.new.store ≡ self.old.store }
     {
@@ -106,24 +109,27 @@ impl Store {
         }
     }
 
-    /// Closes the epoch: it begins, the sixteen shards end the epoch, it is sealed and published. It
+    /// Closes the epoch: it begins with `next`, the text of the next epoch's families list, or with the
+    /// epoch's own where none is named, the sixteen shards end the epoch, it is sealed and published. It
     /// gives the store back with what was sealed, or with the refusal where all leaves for closings are
     /// used, which changes nothing. Where memory is wanted the store is gone.
     pub fn close(
         self,
         alloc: Global,
+        next: Option<Bytes>,
     ) -> Result<(Store, Result<SealedText, CloseRefusal>), OutOfMemory>
-        ensures closes { IfOk result (λ done. Closes self done.0 done.1) }
+        requires { SpellsNext next }
+        ensures closes { IfOk result (λ done. Closes self done.0 next done.1) }
         ensures store { IfOk result (λ done. done.0.store ≡ self.store) }
     {
         match self.body {
             Body::Core(plain) => {
-                let (plain, done) = plain.close(alloc)?;
+                let (plain, done) = plain.close(alloc, next)?;
                 let body = Body::Core(plain);
                 Ok((Store { body }, done))
             }
             Body::Shards(sharded) => {
-                let (sharded, done) = sharded.close(alloc)?;
+                let (sharded, done) = sharded.close(alloc, next)?;
                 let body = Body::Shards(sharded);
                 Ok((Store { body }, done))
             }

@@ -6,7 +6,7 @@ use Rattle.std.proofs.lemmas.Bool.{le-ltb}
 use Rattle.cp_replay.specs.Replay as replay
 use Rattle.cp_replay.specs.Replay.{replayed}
 use Rattle.cp_replay.specs.Script.{script_of}
-use Rattle.cp_replay.specs.View.{outcome_view}
+use Rattle.cp_replay.specs.View.{replayed_view}
 use Rattle.cp_replay.specs.declared.line.Line.{Line}
 use Rattle.cp_replay.specs.declared.replayed.Replayed.{Replayed}
 use Rattle.cp_endings.specs.Endings.{printed}
@@ -32,8 +32,8 @@ module _ (words : ReplayWords) (seed script : List ℕ) where
   unread e at refused = inl (rw (e, refused) refl)
 
   pub done_with : 48 ≤ length seed → (lines : List Line) → script_of script ≡ Ok lines → (whole : List ℕ) → whole ≡ seed → (done : Replayed)
-      → outcome_view done ≡ replayed (making words whole) lines → GivesReplay words seed script (Ok done)
-  done_with long lines read whole same done is = rw (le-ltb (length seed) 48 long, read) (ap (λ (x : replay.Outcome). Ok x) (ap (λ (s : List ℕ). replayed (making words s) lines) (sym same) ∙ sym is))
+      → replayed_view done ≡ replayed (making words whole) lines → GivesReplay words seed script (Ok done)
+  done_with long lines read whole same done is = rw (le-ltb (length seed) 48 long, read) (ap (λ (x : replay.ReplayFiles). Ok x) (ap (λ (s : List ℕ). replayed (making words s) lines) (sym same) ∙ sym is))
 
 -- ---- its files
 
@@ -87,10 +87,10 @@ module _ (words : ReplayWords) (old : Files) where
 
   module _ (mid new : Files) (done : Replayed) (made : MakesReplay words old mid (Ok done)) (kept : KeepsAll old mid) (tells : mid.tells ≡ old.tells) (unwritten : mid.write_faults ≡ old.write_faults)
       (unread : new.read_faults ≡ mid.read_faults) (others : (name : List ℕ) → ¬ IsReplayFile name → new.file name ≡ mid.file name) where
-    all_written : WritesAll (writes_of (outcome_view done)) mid new → WritesAll (writes_of (outcome_view done)) old new
-    all_written writes = λ t name. writes (tells ∙ t) name ∙ ap (λ (c : Option (List ℕ)). content_after name c (writes_of (outcome_view done))) (kept name)
+    all_written : WritesAll (writes_of (replayed_view done)) mid new → WritesAll (writes_of (replayed_view done)) old new
+    all_written writes = λ t name. writes (tells ∙ t) name ∙ ap (λ (c : Option (List ℕ)). content_after name c (writes_of (replayed_view done))) (kept name)
 
-    stopped_at : StopsAt (writes_of (outcome_view done)) mid new → StopsAt (writes_of (outcome_view done)) old new
+    stopped_at : StopsAt (writes_of (replayed_view done)) mid new → StopsAt (writes_of (replayed_view done)) old new
     stopped_at s = record { done = s.done; failed = s.failed; left = s.left; split = s.split; files = λ t name ne. s.files (tells ∙ t) name ne ∙ ap (λ (c : Option (List ℕ)). content_after name c s.done) (kept name) }
 
     pub replay_written : WritesReplay done mid new (Ok tt) → ReplayEnds words old new (printed done.text)

@@ -50,7 +50,7 @@ stops_not2 : (before now : ℕ) (ending : Outcome) → Stops before now ending �
 stops_not2 before now ending (inl fault) e = omega (arith, e, ap (λ o. o.status) fault.0)
 stops_not2 before now ending (inr memory) e = omega (arith, e, ap (λ o. o.status) memory)
 
-written_not2 : (r : Result replay.Outcome Outcome) (old new : Files) (ending : Outcome) → Refuses3 r → WrittenEnds r old new ending → ending.status ≡ 2 → ⊥
+written_not2 : (r : Result replay.ReplayFiles Outcome) (old new : Files) (ending : Outcome) → Refuses3 r → WrittenEnds r old new ending → ending.status ≡ 2 → ⊥
 written_not2 (Ok x) old new ending three (inl w) e = omega (arith, e, ap (λ (o : Outcome). o.status) w.0)
 written_not2 (Ok x) old new ending three (inr w) e = omega (arith, e, ap (λ (o : Outcome). o.status) w.0)
 written_not2 (Err refusal) old new ending three ends e = omega (arith, e, three, ap (λ (o : Outcome). o.status) ends.0)
@@ -68,7 +68,7 @@ stops_4 : (before now : ℕ) (ending : Outcome) → Stops before now ending → 
 stops_4 before now ending (inl failed) e = failed.1
 stops_4 before now ending (inr memory) e = absurd (omega (arith, e, ap (λ o. o.status) memory))
 
-written_4 : (r : Result replay.Outcome Outcome) (old new : Files) (ending : Outcome) → Refuses3 r → WrittenEnds r old new ending → ending.status ≡ 4 → Rose old.write_faults new.write_faults
+written_4 : (r : Result replay.ReplayFiles Outcome) (old new : Files) (ending : Outcome) → Refuses3 r → WrittenEnds r old new ending → ending.status ≡ 4 → Rose old.write_faults new.write_faults
 written_4 (Ok x) old new ending three (inl w) e = absurd (omega (arith, e, ap (λ (o : Outcome). o.status) w.0))
 written_4 (Ok x) old new ending three (inr w) e = w.1
 written_4 (Err refusal) old new ending three ends e = absurd (omega (arith, e, three, ap (λ (o : Outcome). o.status) ends.0))

@@ -137,11 +137,11 @@ module _ (name : List ℕ) (apart : ¬ IsReplayFile name) where
       (own_apart Families epoch x.families, (own_apart Closing epoch x.closing, (own_apart Table epoch x.table, (own_apart Log epoch x.log, tt))))
       (epochs_apart (epoch + 1) xs)
 
-  pub all_apart : (x : replay.Outcome) → AllByRecursion IsApart (writes_of x)
+  pub all_apart : (x : replay.ReplayFiles) → AllByRecursion IsApart (writes_of x)
   all_apart x = (λ same. apart (inl same), (λ same. apart (inr (inl same)), epochs_apart 1 x.epochs))
 
 -- where they are those that were written, its file stays
-pub apart_stays : (old new : Files) (ws : List FileWrite) (x : replay.Outcome) → ws ≡ writes_of x
+pub apart_stays : (old new : Files) (ws : List FileWrite) (x : replay.ReplayFiles) → ws ≡ writes_of x
     → ((name : List ℕ) → AllByRecursion (λ w. name ≢ w.name) ws → new.file name ≡ old.file name) → (name : List ℕ) → ¬ IsReplayFile name → new.file name ≡ old.file name
 apart_stays old new ws x are stays name apart = stays name (subst (λ (l : List FileWrite). AllByRecursion (λ w. name ≢ w.name) l) (sym are) (all_apart name apart x))
 

@@ -18,7 +18,7 @@ unfoldable pub epochs_writes : ℕ → List EpochFiles → List FileWrite
 epochs_writes epoch [] = []
 epochs_writes epoch (x ∷ xs) = epoch_writes epoch x ++ epochs_writes (epoch + 1) xs
 
-abbrev pub writes_of : replay.Outcome → List FileWrite
+abbrev pub writes_of : replay.ReplayFiles → List FileWrite
 writes_of x = write_of (codes "store.key") x.key ∷ (write_of (codes "handins") x.handins ∷ epochs_writes 1 x.epochs)
 
 -- the name of a file that some replay writes

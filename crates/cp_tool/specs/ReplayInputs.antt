@@ -3,7 +3,7 @@ use Rattle.std.specs.Prelude.{ℕ, ◌≡◌, ◌⊎◌, List, Option, Result, O
 use Rattle.cp_outside.specs.Causes.{Rose}
 use Rattle.cp_outside.specs.declared.failures.Failed.{Failed}
 use Rattle.cp_replay.specs.Replay as replay
-use Rattle.cp_replay.specs.View.{outcome_view}
+use Rattle.cp_replay.specs.View.{replayed_view}
 use Rattle.cp_replay.specs.declared.replayed.Replayed.{Replayed}
 use Rattle.cp_endings.specs.Endings.{Outcome, fault, no_memory}
 use Rattle.cp_endings.specs.Folders.{Files, KeepsAll, Stops, IsFile}
@@ -17,12 +17,12 @@ use Rattle.cp_endings.specs.declared.ending.Ending.{Ending}
 
 -- the replay of these bytes, or how the command ends without one
 abbrev pub GivesReplay : ReplayWords → List ℕ → List ℕ → Result Replayed Ending → Type 0
-GivesReplay words seed script (Ok done) = replay_in words seed script ≡ Ok (outcome_view done)
+GivesReplay words seed script (Ok done) = replay_in words seed script ≡ Ok (replayed_view done)
 GivesReplay words seed script (Err ending) = (replay_in words seed script ≡ Err (ending_view ending)) ⊎ (ending_view ending ≡ no_memory)
 
 -- the replay of the files' bytes, or how the command ends without one
-abbrev pub GivesMade : Result replay.Outcome Outcome → ℕ → ℕ → Result Replayed Ending → Type 0
-GivesMade made before now (Ok done) = made ≡ Ok (outcome_view done)
+abbrev pub GivesMade : Result replay.ReplayFiles Outcome → ℕ → ℕ → Result Replayed Ending → Type 0
+GivesMade made before now (Ok done) = made ≡ Ok (replayed_view done)
 GivesMade made before now (Err ending) = (made ≡ Err (ending_view ending)) ⊎ Stops before now (ending_view ending)
 
 -- some contents were read, which are the files' where the folder tells its files
@@ -41,5 +41,5 @@ WritesFiles writes old new (Err failed) = Rose old.write_faults new.write_faults
 
 -- its files were written, or those before one whose write failed, or memory was wanted before them
 abbrev pub WritesReplay : Replayed → Files → Files → Result (Unit {0}) Ending → Type 0
-WritesReplay done old new (Ok written) = WritesAll (writes_of (outcome_view done)) old new
-WritesReplay done old new (Err ending) = ((ending_view ending ≡ fault) × Rose old.write_faults new.write_faults × StopsAt (writes_of (outcome_view done)) old new) ⊎ ((ending_view ending ≡ no_memory) × KeepsAll old new)
+WritesReplay done old new (Ok written) = WritesAll (writes_of (replayed_view done)) old new
+WritesReplay done old new (Err ending) = ((ending_view ending ≡ fault) × Rose old.write_faults new.write_faults × StopsAt (writes_of (replayed_view done)) old new) ⊎ ((ending_view ending ≡ no_memory) × KeepsAll old new)

@@ -16,16 +16,16 @@ use Rattle.cp_commands.specs.ReplayWords.{ReplayWords}
 abbrev pub making : ReplayWords → List ℕ → Making
 making words seed = record { height = words.height; ots = words.ots; seed = seed; pages = words.pages }
 
-abbrev pub replay_by : ReplayWords → List ℕ → Result (List Line) ℕ → Result replay.Outcome Outcome
+abbrev pub replay_by : ReplayWords → List ℕ → Result (List Line) ℕ → Result replay.ReplayFiles Outcome
 replay_by words seed (Ok lines) = Ok (replayed (making words seed) lines)
 replay_by words seed (Err at) = Err (malformed at)
 
 -- the replay of these bytes: the seed is judged, and then the script; whatever serves the store, it is the same
-abbrev pub replay_in : ReplayWords → List ℕ → List ℕ → Result replay.Outcome Outcome
+abbrev pub replay_in : ReplayWords → List ℕ → List ℕ → Result replay.ReplayFiles Outcome
 replay_in words seed script = if nat_lt (length seed) 48 then Err short_seed else replay_by words seed (script_of script)
 
 -- a seed of 48 bytes and a script of at most 1 MiB, which are read first
-abbrev pub replay_made : ReplayWords → Option (List ℕ) → Option (List ℕ) → Result replay.Outcome Outcome
+abbrev pub replay_made : ReplayWords → Option (List ℕ) → Option (List ℕ) → Result replay.ReplayFiles Outcome
 replay_made words seed_file script_file = do
   seed ← input_of seed_file words.seed 48
   script ← input_of script_file words.script 1048576
@@ -33,7 +33,7 @@ replay_made words seed_file script_file = do
 
 -- Its files were written and its lines are printed; or a write failed, after those before it; or an
 -- input was refused and nothing was written.
-abbrev pub WrittenEnds : Result replay.Outcome Outcome → Files → Files → Outcome → Type 0
+abbrev pub WrittenEnds : Result replay.ReplayFiles Outcome → Files → Files → Outcome → Type 0
 WrittenEnds (Ok x) old new ending = ((ending ≡ printed x.text) × WritesAll (writes_of x) old new) ⊎ ((ending ≡ fault) × Rose old.write_faults new.write_faults × StopsAt (writes_of x) old new)
 WrittenEnds (Err refusal) old new ending = (ending ≡ refusal) × KeepsAll old new
 

@@ -1,7 +1,7 @@
 //! The files that a replay writes.
 ghost use Rattle.std.specs.Prelude.{◌≡◌, ◌≢◌, ◌≤◌, ℕ, List, ◌++◌, ◌∷◌, ◌+◌, ◌<◌, ◌^◌, [], IfOk, OnOk, map, length, string_bytes};
 ghost use Rattle.std.specs.List.{AllByRecursion};
-ghost use Rattle.cp_replay.specs.View.{outcome_view};
+ghost use Rattle.cp_replay.specs.View.{replayed_view};
 ghost use Rattle.cp_endings.specs.EpochFiles.{epoch_file};
 ghost use Rattle.cp_endings.specs.Folders.{files_of};
 ghost use Rattle.cp_tool.specs.ReplayFiles.{epoch_writes, epochs_writes, writes_of};
@@ -116,7 +116,7 @@ fn add_epochs<'a>(
 impl<'a> FileWrite<'a> {
     // The files that a replay leaves, in the order in which they are written.
     pub(crate) fn all(alloc: Global, done: &'a Replayed) -> Result<Vec<FileWrite<'a>>, OutOfMemory>
-        ensures { IfOk result (λ writes. map write_view writes.items ≡ writes_of (outcome_view done.now)) }
+        ensures { IfOk result (λ writes. map write_view writes.items ≡ writes_of (replayed_view done.now)) }
     {
         let mut writes = Vec::new(alloc);
         add_named(alloc, &mut writes, "store.key", &done.key)?;

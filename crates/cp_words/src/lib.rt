@@ -1,8 +1,8 @@
 //! The words of a command line: pairs of a name and a value, and numbers.
 #![tactic(auto)]
 
-pub mod numbers;
-pub mod options;
+mod numbers;
+mod options;
 
 pub use numbers::number;
 pub use options::Pairs;

@@ -38,7 +38,7 @@ fn step_of(line: &str) -> Option<Event>
     ensures { IfSome result (λ event. (s : Store) → Admissible s event) }
 {
     match line {
-        "begin" => Some(Event::Begin),
+        "begin" => Some(Event::Begin { next: None }),
         "seal" => Some(Event::Seal),
         "publish" => Some(Event::Publish),
         _ => {

@@ -19,12 +19,12 @@ pub fn place_of(call: u64, blocks: u64) -> u64 {
 
 /// A shard with so many blocks, each of which was read once; none where memory is wanted.
 pub fn made(alloc: Global, blocks: u64) -> Option<Store> {
-    made_with(alloc, blocks, 0)
+    made_with(alloc, blocks, 0, b"CPf1\0\0\0\0")
 }
 
-/// The same with so many pages.
-pub fn made_with(alloc: Global, blocks: u64, pages: u32) -> Option<Store> {
-    let mut store = Store::new(alloc, pages)?;
+/// The same with so many pages and this families list.
+pub fn made_with(alloc: Global, blocks: u64, pages: u32, list: &[u8]) -> Option<Store> {
+    let mut store = Store::new(alloc, pages, list)?;
     for n in 0..blocks {
         if !store.get(alloc, block_at(n), 0) {
             return None;

@@ -3,7 +3,6 @@ use crate::shard::measuring::{made_with, map_of, place_of};
 use crate::shard::store::{STORE, Store, block_at};
 use crate::shard::yardstick::Yardstick;
 use cp_bytes::digest;
-use cp_families::Families;
 use cp_statements::{Envelope, PutRequest};
 use lms_ots::OtsType;
 use lms_tree::{Height, PrivateKey};
@@ -51,7 +50,6 @@ fn request_of(call: u64, blocks: u64) -> PutRequest {
 // Asks a put that is signed before the clock starts, and turns the map for it.
 fn ask_one(
     rt: &HostRuntime,
-    families: &Families<'_>,
     store: &mut Store,
     map: &mut Yardstick,
     request: &PutRequest,
@@ -67,7 +65,7 @@ fn ask_one(
         turning: 0,
         answered: 0,
     };
-    let Ok(put) = families.check_put(&STORE, &envelope) else {
+    let Some(put) = store.verified(&envelope) else {
         return Ok(none);
     };
     let begun = Instant::now(rt)?;
@@ -90,7 +88,6 @@ fn ask_one(
 fn ask_all(
     rt: &HostRuntime,
     key: &PrivateKey,
-    families: &Families<'_>,
     store: &mut Store,
     map: &mut Yardstick,
     blocks: u64,
@@ -107,7 +104,7 @@ fn ask_all(
         if key.leaves() > 0 && key.sig_len() == SIGNATURE {
             key.sign_into(0, &request.text(), &mut signature);
         }
-        let one = ask_one(rt, families, store, map, &request, &signature)?;
+        let one = ask_one(rt, store, map, &request, &signature)?;
         spent = Spent {
             asking: spent.asking.wrapping_add(one.asking),
             turning: spent.turning.wrapping_add(one.turning),
@@ -128,18 +125,17 @@ pub fn puts(rt: &HostRuntime, blocks: u64, calls: u64) -> io::Result<()> {
     let Ok(pages) = u32::try_from(calls.min(blocks).saturating_add(1)) else {
         return println!(rt; "too many blocks");
     };
-    let (Some(key), Some(mut store), Some(mut map)) = (
-        key_of(alloc),
-        made_with(alloc, blocks, pages),
+    let Some(key) = key_of(alloc) else {
+        return println!(rt; "out of memory");
+    };
+    let list = one_row(&key.public().bytes());
+    let (Some(mut store), Some(mut map)) = (
+        made_with(alloc, blocks, pages, &list),
         map_of(alloc, blocks),
     ) else {
         return println!(rt; "out of memory");
     };
-    let list = one_row(&key.public().bytes());
-    let Ok(families) = Families::read(&list) else {
-        return println!(rt; "no families list");
-    };
-    let spent = ask_all(rt, &key, &families, &mut store, &mut map, blocks, calls)?;
+    let spent = ask_all(rt, &key, &mut store, &mut map, blocks, calls)?;
     if spent.answered != calls {
         return println!(rt; "not all calls were answered");
     }

@@ -1,11 +1,12 @@
 //! A shard to be asked.
-ghost use Rattle.std.specs.Prelude.{◌≡◌};
+ghost use Rattle.std.specs.Prelude.{◌≡◌, IfSome};
+ghost use Rattle.cp_shard.specs.Steps.{IsByWriter};
 
 use cp_bytes::digest;
 use cp_core::Counter;
-use cp_families::VerifiedPut;
+use cp_families::{ListText, SharedList, VerifiedPut, family_of, verify_put};
 use cp_shard::Shard;
-use cp_statements::GetRequest;
+use cp_statements::{Envelope, GetRequest, PutRequest};
 use std::alloc::Global;
 
 /// The shard's index.
@@ -33,9 +34,12 @@ pub struct Store {
 }
 
 impl Store {
-    /// One with no item and with so many pages; none where memory is wanted.
-    pub fn new(alloc: Global, pages: u32) -> Option<Store> {
-        let shard = Shard::new(alloc, STORE, 5, pages, 4).ok()?;
+    /// One with no item, with so many pages and this families list; none where memory is wanted or the
+    /// bytes spell no list.
+    pub fn new(alloc: Global, pages: u32, list: &[u8]) -> Option<Store> {
+        let list = ListText::read(Vec::from_slice(alloc, list).ok()?).ok()?;
+        let first = SharedList::new(alloc, list).ok()?;
+        let shard = Shard::new(alloc, STORE, 5, pages, 4, first).ok()?;
         Some(Store {
             shard,
             leaves: Counter::new(),
@@ -66,8 +70,24 @@ impl Store {
         }
     }
 
+    /// The put of the envelope, where a writer of the shard's list signed it.
+    pub fn verified<'a>(&self, envelope: &Envelope<'a>) -> Option<VerifiedPut<'a>>
+        ensures { IfSome result (IsByWriter self.now.shard) }
+    {
+        let asked = PutRequest::read(envelope.text).ok()?;
+        let key = self.shard.key_of(family_of(asked.block), asked.client)?;
+        let put = verify_put(&self.id, &key, envelope).ok()?;
+        let request = put.request();
+        if request.block != asked.block || request.client != asked.client {
+            return None;
+        }
+        Some(put)
+    }
+
     /// Whether the put of this content is answered.
-    pub fn put(&mut self, alloc: Global, put: &VerifiedPut, content: &[u8]) -> bool {
+    pub fn put(&mut self, alloc: Global, put: &VerifiedPut, content: &[u8]) -> bool
+        requires { IsByWriter self.old.shard put.now }
+    {
         let request = put.request();
         let right = request.store == self.id
             && request.block % 16 == INDEX

@@ -1,4 +1,5 @@
-use Rattle.cp_closer.proofs.Following.{opens_alike, begins_alike, takes_alike, seals_any_alike, publishes_alike, stays_alike}
+use Rattle.cp_closer.proofs.Following.{opens_alike, begins_alike, takes_alike, seals_any_alike, publishes_alike}
+use Rattle.cp_closer.proofs.Growing.{stays_alike}
 use Rattle.cp_closer.proofs.laws.follows_the_life.Goals as goal
 
 pub returns : goal.returns

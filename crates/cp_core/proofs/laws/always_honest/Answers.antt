@@ -9,4 +9,4 @@ pub returns-clause-each_event : goal.returns-clause-each_event
 returns-clause-each_event c = each_keeps
 
 pub returns-clause-opening : goal.returns-clause-opening
-returns-clause-opening c s small = opens s
+returns-clause-opening c s small = opens s small

@@ -6,7 +6,7 @@ use Rattle.cp_shard.proofs.laws.steps_stay_honest.Goals as goal
 
 pub returns : goal.returns
 returns c = (
-  λ s k items contents pages pass request leaf answer row honest at fits names writes room step.
-      honest_call s k items pass request contents leaf answer row honest at fits names writes room (step_new s.id pages items contents pass request leaf answer row step),
-  λ s k items honest. honest_freeze s k items (epoch_now items) honest refl,
+  λ s k items contents pages pass request leaf answer row honest at fits names room step.
+      honest_call s k items pass request contents leaf answer row honest at fits names room (step_new s.id pages s.families items contents pass request leaf answer row step),
+  λ s k items next honest spells. honest_freeze s k items (epoch_now items) next honest refl spells,
 )

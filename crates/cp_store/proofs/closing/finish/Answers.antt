@@ -1,6 +1,5 @@
 use Rattle.std.proofs.Common.{◌∙◌, Some, sym, ap}
-use Rattle.cp_closer.specs.Closer.{after_seal}
-use Rattle.cp_store.proofs.Freezing.{is_full, finished}
+use Rattle.cp_store.proofs.Freezing.{at_start, is_full, finished}
 use Rattle.cp_store.proofs.closing.finish.Goals as goal
 
 pub seal-requires : goal.seal-requires
@@ -14,6 +13,6 @@ seal-requires c = is_full c.freeze_all.new.shards.items c.freeze_all.new.closer 
 })
 
 pub returns : goal.returns
-returns c = λ s st n fits few list start.
-    finished s st c.freeze_all.new.shards.items c.freeze_all.new.closer c.seal.new.self c.published.new.self n c.args.epoch c.in_ok-sealed.sealed fits (c.in_ok-freeze_all.ensures s st n fits few start)
-    (c.in_ok-seal.ensures.sealed ∙ ap (after_seal c.freeze_all.new.closer) (sym list)) (c.sealed.ensures ∙ ap Some (sym c.in_ok-sealed.ensures)) c.published.ensures
+returns c = λ s st n fits few start.
+    finished s st c.freeze_all.new.shards.items c.freeze_all.new.closer c.seal.new.self c.published.new.self n c.args.epoch c.in_ok-sealed.sealed fits (at_start s st c.args.shards.now.items c.args.closer.now n c.args.epoch start) (c.in_ok-freeze_all.ensures s st n fits few start)
+    c.in_ok-seal.ensures.sealed (c.sealed.ensures ∙ ap Some (sym c.in_ok-sealed.ensures)) c.published.ensures

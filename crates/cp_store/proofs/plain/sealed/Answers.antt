@@ -1,16 +1,18 @@
-use Rattle.std.proofs.Common.{◌≡◌, ◌-◌, ◌∙◌, refl, sym, ap, subst, get_or, length, [], List}
+use Rattle.std.proofs.Common.{◌≡◌, ◌-◌, ◌∙◌, refl, sym, ap, subst, get_or, length, [], List, Some}
 use Rattle.cp_core.specs.Honest.{last_of}
+use Rattle.cp_core.specs.Sealing.{families_at}
+use Rattle.cp_closer.specs.Closer.{seal_item}
 use Rattle.cp_core.specs.declared.chronicle.Chronicle.{Chronicle}
 use Rattle.cp_core.specs.declared.item.Item.{Item}
 use Rattle.cp_core.specs.declared.seal_item.SealItem.{SealItem}
 use Rattle.cp_closer.specs.declared.sealed_text.SealedText.{SealedText}
-use Rattle.cp_store.specs.Logs.{HasShortRows}
-use Rattle.cp_store.proofs.ShortRows.{rows_short}
+use Rattle.cp_shard.proofs.ShortRows.{shard_short}
+use Rattle.cp_shard.specs.Laws.{HasShortRows}
 use Rattle.cp_store.proofs.Closings.{last_seal, last_sealed, seal_length, sealed_count}
 use Rattle.cp_store.proofs.plain.sealed.Goals as goal
 
 pub log-requires-clause-short : goal.log-requires-clause-short
-log-requires-clause-short c = λ k lt. subst (λ (xs : List (List Item)). HasShortRows (get_or xs k [])) (sym c.as_slice.ensures) (rows_short c.args.core.now.store c.life-life.result.now c.life-life.ensures.honest k lt)
+log-requires-clause-short c = λ k lt. subst (λ (xs : List (List Item)). HasShortRows (get_or xs k [])) (sym c.as_slice.ensures) (shard_short c.args.core.now.store k (get_or c.life-life.result.now.shards k []) (c.life-life.ensures.honest.shards k lt))
 
 pub closing_text-requires : goal.closing_text-requires
 closing_text-requires c =
@@ -29,3 +31,4 @@ returns-clause-seal c =
     (last_seal c.args.core.now.store c.life-life.result.now c.args.epoch (c.args.epoch - 1) c.index-seals-epoch.result c.life-life.ensures.honest c.requires.some count refl
     (c.index-seals-epoch.is ∙ ap (λ (xs : List SealItem). get_or xs (c.args.epoch - 1) c.index-seals-epoch.result) c.as_slice-seals.ensures))
     refl (c.closing_text.ensures ∙ c.as_slice-2.ensures) c.in_ok-table.ensures
+    ∙ ap (λ (r : Chronicle). Some (seal_item c.args.epoch (families_at c.args.core.now.store r c.args.epoch) text)) c.life-life.ensures.life

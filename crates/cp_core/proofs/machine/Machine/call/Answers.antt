@@ -13,4 +13,4 @@ pub returns-clause-stepped : goal.returns-clause-stepped
 returns-clause-stepped c =
     call_made (store_view c.args.self.now) (state_view c.args.self.now) c.args.pass c.args.request c.in_ok-booked.field-0.booked c.in_ok-booked.field-0.row _ c.block.result c.into_content.result (state_view c.append.new.self)
     (sym c.in_ok-answer.ensures ∙ c.in_default.is) c.if-self.false c.in_ok-booked.ensures.booked c.in_ok-booked.ensures.row c.block.ensures refl c.into_content.ensures
-    c.in_ok-append.ensures.life c.in_ok-append.ensures.contents c.in_ok-append.ensures.phase c.in_ok-append.ensures.published c.in_ok-append.ensures.drawn
+    c.in_ok-append.ensures.life c.in_ok-append.ensures.contents c.in_ok-append.ensures.phase c.in_ok-append.ensures.published c.in_ok-append.ensures.kept c.in_ok-append.ensures.drawn

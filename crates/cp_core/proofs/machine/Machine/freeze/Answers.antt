@@ -10,4 +10,4 @@ pub returns-then-shard-taken-clause-stepped : goal.returns-then-shard-taken-clau
 returns-then-shard-taken-clause-stepped c = freeze_early (store_view c.args.self.now) (state_view c.args.self.now) c.args.shard c.in-Half.epoch c.in-Half.taken c.in-Half.is c.if-shard-taken.true
 
 pub returns-clause-stepped : goal.returns-clause-stepped
-returns-clause-stepped c = freeze_made (store_view c.args.self.now) (state_view c.args.self.now) c.args.shard c.in-Half.epoch c.in-Half.taken c.push.new.self c.after_freeze-self.result c.in-Half.is c.if-shard-taken.false c.in_ok-push.ensures.pushed c.after_freeze-self.ensures
+returns-clause-stepped c = freeze_made (store_view c.args.self.now) (state_view c.args.self.now) c.args.shard c.in-Half.epoch c.in-Half.taken c.in_ok-next.next c.push.new.self c.after_freeze-self.result c.in-Half.is c.if-shard-taken.false c.in_ok-next.ensures c.in_ok-push.ensures.pushed c.after_freeze-self.ensures

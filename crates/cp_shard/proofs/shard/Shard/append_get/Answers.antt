@@ -49,7 +49,7 @@ pub returns-clause-appended : goal.returns-clause-appended
 returns-clause-appended g c =
     let s = c.self.inside in let a = attestation_view c.args.attestation in
     let r : RowItem = record { pass = c.args.pass; leaf = c.in-Ok-draw.leaf; pages = 0; entry = c.args.text } in
-    get_view s.store s.index s.pages s.closings s.items.items c.push_reserved-2.new.self.items (λ b. content_in s.pool (run_at s.standings b)) (λ b. content_in s.pool (run_at c.set_tip.new.standings b)) r a
+    get_view s.store s.index s.pages s.closings s.first s.items.items c.push_reserved-2.new.self.items (λ b. content_in s.pool (run_at s.standings b)) (λ b. content_in s.pool (run_at c.set_tip.new.standings b)) r a
     (carried (λ v. IsNext v.store v.index v.items a c.args.text) _ _ c.self.view_is c.requires.next) c.requires.get
     (c.push_reserved-2.ensures.items ∙ ap (λ xs. xs ++ row_item r ∷ []) c.in-Ok.ensures.items) (λ b. ap (content_in s.pool) (c.set_tip.ensures.runs b ∙ c.in-Ok.ensures.runs b))
     ∙ ap (λ (v : ShardModel). record v { items = v.items ++ row_item r ∷ [] }) c.self.view_is
