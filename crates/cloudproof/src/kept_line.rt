@@ -1,8 +1,8 @@
-//! Standard output whose first bytes are kept, so that what went wrong can be said again on standard
-//! error.
+//! Standard output whose first bytes are kept, so that what went wrong can be said again on
+//! standard error.
 use cp_outside::{Endpoint, Failed, Sink};
 
-/// The most bytes that are kept.
+// The most bytes that are kept.
 const ROOM: usize = 256;
 
 /// A sink, and the first bytes that went to it.

@@ -1,6 +1,6 @@
-//! The program `cloudproof`: the words after its name, the current folder, the file `leaves.vault` there
-//! and standard output, handed to `run`. What no contract says stands here alone: `--help` and
-//! `--version`, and what goes to standard error.
+//! The program `cloudproof`: the words after its name, the current folder, the file `leaves.vault`
+//! there and standard output, handed to `run`. What no contract says stands here alone: `--help`
+//! and `--version`, and what goes to standard error.
 #![tactic(auto)]
 
 mod kept_line;
@@ -39,8 +39,8 @@ fn printed<S: Sink>(out: &mut S, text: &str, status: u8) -> u8 {
     }
 }
 
-// Says on standard error what was wrong: the usage of the command that the first word names, or of all,
-// or else the printed line.
+// Says on standard error what was wrong: the usage of the command that the first word names, or of
+// all, or else the printed line.
 fn explain(rt: &HostRuntime, words: &[String], line: &str, status: u8) {
     let _said = match words {
         [name, ..] if status == 2 => match usage_of(name.as_str()) {

@@ -5,7 +5,9 @@ use Rattle.cp_tips.specs.Table.{TableRow}
 use Rattle.cp_chain.specs.Frame.{Frame}
 use Rattle.cp_chain.specs.Log.{LogPart}
 use Rattle.cp_chain.specs.Standing.{reaches}
-use Rattle.cp_evidence.specs.Material.{part_of, rose}
+use Rattle.cp_evidence.specs.Material.{log_fault, part_of, rose}
+use Rattle.cp_audit.specs.Parts.{frame_in}
+use Rattle.cp_audit.specs.declared.frames.Frames.{Frames}
 
 -- the least number that passes the test; none where none passes
 abbrev pub IsLeast : (ℕ → Bool) → Option ℕ → Type 0
@@ -25,3 +27,7 @@ abbrev pub least_two : Option ℕ → Option ℕ → Option ℕ
 least_two None b = b
 least_two (Some a) None = Some a
 least_two (Some a) (Some b) = Some (if nat_lt a b then a else b)
+
+-- the block at which these parts fail the frames' tables
+abbrev pub log_fault_in : Frames → List LogPart → Option ℕ
+log_fault_in f parts = log_fault (frame_in f) f.before f.after parts

@@ -1,5 +1,5 @@
 -- What is kept of the envelopes that were passed: of each key the first one (this project's own).
-use Rattle.std.specs.Prelude.{ℕ, ◌≡◌, true, Bool, List, Option, Some, None, option_map, ◌&&◌, not, bytes_eq, cond, is_none}
+use Rattle.std.specs.Prelude.{ℕ, ◌≡◌, true, Bool, List, ◌++◌, Option, Some, None, option_map, ◌&&◌, not, bytes_eq, cond, is_none, Result, IfOk, OnOk}
 use Rattle.std.specs.List.{AllByRecursion, find}
 use Rattle.std.specs.declared.cmp.Ordering.{Ordering}
 use Rattle.std.specs.Ordering.{nat_cmp, ordering_then}
@@ -10,7 +10,7 @@ use Rattle.cp_statements.specs.Envelope.{Envelope}
 use Rattle.cp_statements.specs.View.{envelope_view}
 use Rattle.cp_statements.specs.declared.envelope.Envelope as code
 use Rattle.cp_evidence.specs.Conditions.{attestation_by}
-use Rattle.cp_evidence.specs.Verdict.{some_and}
+use Rattle.cp_evidence.specs.Verdict.{clash, some_and}
 use Rattle.cp_evidence.specs.declared.two.Two.{Two}
 use Rattle.cp_audit.specs.declared.clash.Place.{Place}
 
@@ -72,3 +72,37 @@ place_key store x = option_map place_in (attestation_by store x.text)
 
 abbrev pub place_cmp : Place → Place → Ordering
 place_cmp a b = ordering_then (nat_cmp a.block b.block) (nat_cmp a.position b.position)
+
+-- ---- what a search answers; want of memory says nothing
+
+-- this pair, or none
+abbrev pub FindsPair : {E : Type 0} → Option (Envelope × Envelope) → Result (Option Two) E → Type 0
+FindsPair pair result = IfOk result (λ two. option_map pair_view two ≡ pair)
+
+-- the envelope that is kept of the key, where it has another text than y
+abbrev pub FindsOther : {K E : Type 0} → (K → K → Ordering) → BTreeMap K code.Envelope → Option K → Envelope → Result (Option code.Envelope) E → Type 0
+FindsOther cmp kept key y result = IfOk result (λ first. option_map envelope_view first ≡ other_at (kept_in cmp kept) key y)
+
+-- the next one, y, is kept of its key
+abbrev pub KeepsNext : {K A E : Type 0} → (K → K → Ordering) → BTreeMap K code.Envelope → BTreeMap K code.Envelope → Option K → Envelope → Result A E → Type 0
+KeepsNext {K = K} cmp before after key y result = OnOk result ((q : K) → kept_in cmp after q ≡ kept_with (same_by cmp) (kept_in cmp before) key y q)
+
+-- the first two texts of one leaf; the first list is what is before the second
+abbrev pub leaf_clash : List Envelope → List Envelope → Option (Envelope × Envelope)
+leaf_clash earlier xs = clash (differ (same_by nat_cmp) leaf_key) earlier xs
+
+-- the map keeps the first envelope of each leaf
+abbrev pub KeepsLeaves : List Envelope → BTreeMap ℕ code.Envelope → Type 0
+KeepsLeaves xs kept = KeepsFirsts (same_by nat_cmp) leaf_key xs (kept_in nat_cmp kept)
+
+-- so it does where no pair is found
+abbrev pub KeepsWhereNone : {E : Type 0} → List Envelope → BTreeMap ℕ code.Envelope → Result (Option Two) E → Type 0
+KeepsWhereNone xs kept result = IfOk result (λ two. two ≡ None → KeepsLeaves xs kept)
+
+-- the first two texts of one leaf, where the map keeps the earlier envelopes
+abbrev pub FindsLeafClash : {E : Type 0} → BTreeMap ℕ code.Envelope → List Envelope → Result (Option Two) E → Type 0
+FindsLeafClash before xs result = IfOk result (λ two. (earlier : List Envelope) → KeepsLeaves earlier before → option_map pair_view two ≡ leaf_clash earlier xs)
+
+-- the map keeps these with the earlier envelopes, where no pair is found
+abbrev pub KeepsMoreLeaves : {E : Type 0} → BTreeMap ℕ code.Envelope → BTreeMap ℕ code.Envelope → List Envelope → Result (Option Two) E → Type 0
+KeepsMoreLeaves before after xs result = IfOk result (λ two. (earlier : List Envelope) → KeepsLeaves earlier before → two ≡ None → KeepsLeaves (earlier ++ xs) after)

@@ -9,13 +9,16 @@ use Rattle.cp_chain.specs.Log.{LogPart, log_of}
 use Rattle.cp_chain.specs.View.{frame_view}
 use Rattle.cp_evidence.specs.Material as material
 use Rattle.cp_evidence.specs.View.{before_view, signed_closing_view}
+use Rattle.cp_evidence.specs.declared.before.Before.{Before}
+use Rattle.cp_evidence.specs.declared.before.SignedClosing.{SignedClosing}
 use Rattle.cp_evidence.specs.declared.store.Store.{Store}
 use Rattle.cp_audit.specs.declared.frames.Frames.{Frames}
 use Rattle.cp_audit.specs.declared.given.GivenEpoch.{GivenEpoch}
 use Rattle.cp_audit.specs.declared.part.Part.{Part}
 use Rattle.cp_audit.specs.declared.refusal.AuditRefusal.{AuditRefusal}
 use Rattle.cp_audit.specs.declared.refusal.AuditRefusal.TheVariants.{NotGiven, Malformed, OutOfMemory}
-use Rattle.cp_audit.specs.View.{what_view}
+use Rattle.cp_audit.specs.View.{material_view, what_view}
+use Rattle.cp_audit.specs.declared.material.Material.{Material}
 use Rattle.cp_audit.specs.Parts.{part_view, IsFramed, frame_in}
 
 -- the refusal is what this gives; want of memory says nothing
@@ -59,6 +62,10 @@ parts_read (Some parts) = parts.items
 abbrev pub GivesLog : Store → List FamilyRow → material.Material → Option material.SignedClosing → material.SignedClosing → Result (Option (Vec Part)) AuditRefusal → Type 0
 GivesLog store families m before closing (Ok log) = (log_where store families m before closing ≡ Ok (seen log)) × AreFramed (frame_by store families m) log
 GivesLog store families m before closing (Err refusal) = Refuses (log_where store families m before closing) refusal
+
+-- what stands before the log, as the code has it
+abbrev pub GivesLogOf : Store → List FamilyRow → Material → Before → SignedClosing → Result (Option (Vec Part)) AuditRefusal → Type 0
+GivesLogOf store families m before closing result = GivesLog store families (material_view m) (before_view before) (signed_closing_view closing) result
 
 -- ---- what is given
 

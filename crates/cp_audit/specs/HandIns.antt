@@ -1,5 +1,6 @@
 -- What was handed in, as it is read.
-use Rattle.std.specs.Prelude.{ℕ, ◌≡◌, List, length, map, filter, Result, Ok, Err}
+use Rattle.std.specs.Prelude.{ℕ, ◌≡◌, List, [], ◌∷◌, ◌++◌, length, map, filter, Result, Ok, Err, if◌then◌else◌, OnOk}
+use Rattle.std.specs.Global.{Vec}
 use Rattle.cp_statements.specs.View.{envelope_view}
 use Rattle.cp_evidence.specs.Conditions.{signed_by}
 use Rattle.cp_evidence.specs.HandIns.{hand_ins_of}
@@ -7,6 +8,7 @@ use Rattle.cp_audit.specs.declared.hand_ins.HandIns.{HandIns}
 use Rattle.cp_audit.specs.declared.refusal.AuditRefusal.{AuditRefusal}
 use Rattle.cp_audit.specs.declared.refusal.AuditRefusal.TheVariants.{NotGiven, Malformed, OutOfMemory}
 use Rattle.cp_statements.specs.Envelope.{Envelope}
+use Rattle.cp_statements.specs.declared.envelope.Envelope as code
 
 -- their number, and those of them that verify
 pub record AreHandedIn (key : List ℕ) (hand_ins : List Envelope) (x : HandIns) : Type 0 where
@@ -20,3 +22,11 @@ Collects key bytes (Ok x) = (hand_ins : List Envelope) × (hand_ins_of bytes ≡
 Collects key bytes (Err (Malformed at)) = hand_ins_of bytes ≡ Err at
 Collects key bytes (Err OutOfMemory) = Unit {0}
 Collects key bytes (Err (NotGiven what)) = ⊥
+
+-- with one more, where it verifies
+abbrev pub with_signed : List ℕ → code.Envelope → List code.Envelope → List code.Envelope
+with_signed key x xs = if signed_by key (envelope_view x) then xs ++ x ∷ [] else xs
+
+-- it is added where it verifies; want of memory says nothing
+abbrev pub AddsSigned : {A E : Type 0} → List ℕ → code.Envelope → Vec code.Envelope → Vec code.Envelope → Result A E → Type 0
+AddsSigned key x old new result = OnOk result (new.items ≡ with_signed key x old.items)

@@ -1,12 +1,18 @@
 -- The segments of a log, as they are read.
-use Rattle.std.specs.Prelude.{ℕ, suc, ◌≡◌, true, List, map, Option, Some, None, Result, Ok, IsErr, codes}
+use Rattle.std.specs.Prelude.{ℕ, suc, ◌≡◌, Bool, true, List, map, Option, Some, None, option_map, Result, Ok, IfOk, IsErr, codes}
+use Rattle.std.specs.Global.{Vec}
 use Rattle.std.specs.List.{AllByRecursion}
 use Rattle.cp_bytes.specs.Cursor.{Cursor}
 use Rattle.cp_bytes.specs.Fields.{◌>>=◌, field_at}
 use Rattle.cp_bytes.specs.Fields.Field.{Tag, Epoch, U32, U64}
 use Rattle.cp_chain.specs.Frame.{Frame}
 use Rattle.cp_chain.specs.Log.{LogPart, Log, comes_behind, log_parts_at, log_of}
+use Rattle.cp_chain.specs.Segment.{segment_at}
+use Rattle.cp_chain.specs.Standing.{stands}
 use Rattle.cp_chain.specs.View.{frame_view}
+use Rattle.cp_statements.specs.View.{attestation_view}
+use Rattle.cp_statements.specs.declared.attestation.Attestation.{Attestation}
+use Rattle.cp_audit.specs.Heads as heads
 use Rattle.cp_evidence.specs.Material.{frame_between}
 use Rattle.cp_audit.specs.declared.frames.Frames.{Frames}
 use Rattle.cp_audit.specs.declared.part.Part.{Part}
@@ -56,3 +62,27 @@ ReadsLog f (Some parts) bytes = (log_of bytes ≡ Ok (record { epoch = f.epoch; 
 -- where a block's segment stands
 abbrev pub frame_in : Frames → ℕ → Frame
 frame_in f block = frame_between f.store f.families f.epoch f.before f.after block
+
+-- ---- what the readers answer; want of memory says nothing
+
+-- the segment of the block at the front of what is left
+abbrev pub ReadsPart : {E : Type 0} → Frames → ℕ → Cursor → Cursor → Result (Option Part) E → Type 0
+ReadsPart f block old new result = IfOk result (λ part. TakesPart f block part (segment_at old.rest) new.rest)
+
+-- so many parts at the front of what is left
+abbrev pub ReadsParts : {E : Type 0} → Frames → ℕ → Cursor → Cursor → Result (Option (Vec Part)) E → Type 0
+ReadsParts f count old new result = IfOk result (λ parts. TakesParts f (option_map (λ v. v.items) parts) (log_parts_at count None old.rest) new.rest)
+
+-- the parts of the log that all of the bytes are
+abbrev pub ReadsWholeLog : {E : Type 0} → Frames → List ℕ → Result (Option (Vec Part)) E → Type 0
+ReadsWholeLog f bytes result = IfOk result (λ parts. ReadsLog f (option_map (λ v. v.items) parts) bytes)
+
+-- ---- attestations of a part
+
+-- it is of this segment
+abbrev pub stands_in : Part → Attestation → Bool
+stands_in p a = stands (frame_view p.frame) p.segment (attestation_view a)
+
+-- it is of the text at the place
+abbrev pub is_at_place : Part → Attestation → ℕ → Bool
+is_at_place p a place = heads.stands_at p.frame.before.head p.segment (attestation_view a) place

@@ -6,7 +6,7 @@ ghost use Rattle.cp_statements.specs.View.{envelope_view};
 ghost use Rattle.cp_evidence.specs.Conditions.{is_statement};
 ghost use Rattle.cp_evidence.specs.Evidence.Evidence.{K9, K10};
 ghost use Rattle.cp_evidence.specs.Verdict.{has_wrong_head};
-ghost use Rattle.cp_audit.specs.Rows.{Writes};
+ghost use Rattle.cp_audit.specs.Rows.{Writes, no_statement_found, wrong_head_found};
 
 use cp_bytes::OutOfMemory;
 use cp_evidence::{Store, head_fits, write_k9, write_k10};
@@ -19,7 +19,7 @@ pub(crate) fn no_statement(
     store: &Store,
     xs: &[Envelope],
 ) -> Result<Option<Vec<u8>>, OutOfMemory>
-    ensures { Writes (option_map K10 (find (λ x. not (is_statement (sha256 store.now.key) x.text)) (map envelope_view xs.now))) result }
+    ensures { Writes (no_statement_found (sha256 store.now.key) (map envelope_view xs.now)) result }
 {
     let Some(x) = first_no_statement(store, xs) else {
         return Ok(None);
@@ -41,7 +41,7 @@ pub(crate) fn wrong_head(
     store: &Store,
     xs: &[Envelope],
 ) -> Result<Option<Vec<u8>>, OutOfMemory>
-    ensures { Writes (option_map K9 (find (has_wrong_head (sha256 store.now.key)) (map envelope_view xs.now))) result }
+    ensures { Writes (wrong_head_found (sha256 store.now.key) (map envelope_view xs.now)) result }
 {
     let Some(x) = first_wrong_head(store, xs) else {
         return Ok(None);

@@ -8,8 +8,9 @@ ghost use Rattle.cp_evidence.specs.AuditLaws.{LongPartsFit};
 ghost use Rattle.cp_evidence.specs.Material.{frame_for};
 ghost use Rattle.cp_evidence.specs.Verdict.{fault_in};
 ghost use Rattle.cp_audit.specs.Given.{given_view};
+ghost use Rattle.cp_audit.specs.LogParts.{StandInFrames, fault_evidence};
 ghost use Rattle.cp_audit.specs.Parts.{part_view};
-ghost use Rattle.cp_audit.specs.Rows.{Writes, broken_rule};
+ghost use Rattle.cp_audit.specs.Rows.{Writes, WritesEvidence, illegal_found};
 
 use crate::by_tables::fits;
 use crate::given::GivenEpoch;
@@ -25,8 +26,8 @@ pub(crate) fn illegal(
     o: &GivenEpoch,
     parts: &[Part],
 ) -> Result<Option<Vec<u8>>, OutOfMemory>
-    requires { AllByRecursion (λ p. frame_view p.frame ≡ frame_for (given_view o.now) p.frame.block) parts.now }
-    ensures { Writes (first_of (map (fault_in (given_view o.now)) (map part_view parts.now))) result }
+    requires { StandInFrames (given_view o.now) parts.now }
+    ensures { Writes (illegal_found (given_view o.now) (map part_view parts.now)) result }
 {
     for part in parts {
         if let Some(fault) = first_fault_by_index(alloc, &part.frame, &part.segment)? {
@@ -44,7 +45,7 @@ fn write_fault(
     part: &Part,
     fault: Fault,
 ) -> Result<Vec<u8>, OutOfMemory>
-    ensures { IfOk result (λ out. (out.items ≡ evidence_text (broken_rule (given_view o.now) (part_view part.now) (fault_view fault))) × LongPartsFit (broken_rule (given_view o.now) (part_view part.now) (fault_view fault))) }
+    ensures { WritesEvidence (fault_evidence o.now part.now fault) result }
 {
     if !fits(o.table_before) || !fits(o.table) || !fits(o.families_text) {
         return Err(AllocError);

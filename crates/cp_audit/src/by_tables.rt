@@ -4,7 +4,7 @@ ghost use Rattle.cp_evidence.specs.Evidence.Evidence.{K4, K5, K6};
 ghost use Rattle.cp_evidence.specs.Material.{before_in, envelope_before, is_formed, is_formed_before, least_regressed, new_rows, old_rows};
 ghost use Rattle.cp_evidence.specs.Verdict.{evidence_if, framing, link_is_wrong};
 ghost use Rattle.cp_audit.specs.Given.{given_view};
-ghost use Rattle.cp_audit.specs.Rows.{Writes};
+ghost use Rattle.cp_audit.specs.Rows.{Writes, IsFormed, IsFormedBefore, bad_table_before_found, bad_table_found, regressed_found, wrong_link_found};
 ghost use Rattle.cp_chain.specs.Segment.{PartFits};
 
 use crate::frames::table_in;
@@ -16,7 +16,7 @@ use std::alloc::{AllocError, Global};
 
 // A link that isn't to the closing before.
 pub(crate) fn wrong_link(alloc: Global, o: &GivenEpoch) -> Result<Option<Vec<u8>>, OutOfMemory>
-    ensures { Writes (evidence_if (link_is_wrong (given_view o.now)) (K5 (record { x = (given_view o.now).closing.envelope; y = envelope_before (given_view o.now).before }))) result }
+    ensures { Writes (wrong_link_found (given_view o.now)) result }
 {
     if o.closing.closing.link == o.before.link() {
         return Ok(None);
@@ -38,7 +38,7 @@ pub(crate) fn bad_table_before(
     alloc: Global,
     o: &GivenEpoch,
 ) -> Result<Option<Vec<u8>>, OutOfMemory>
-    ensures { Writes (evidence_if (not (is_formed_before o.now.table_before.now (before_in (given_view o.now).before))) (K4 (record { closing = envelope_before (given_view o.now).before; table = o.now.table_before.now }))) result }
+    ensures { Writes (bad_table_before_found (given_view o.now)) result }
 {
     if is_formed_before(o.table_before, &o.before) {
         return Ok(None);
@@ -53,7 +53,7 @@ pub(crate) fn bad_table_before(
 
 // A table that isn't well formed.
 pub(crate) fn bad_table(alloc: Global, o: &GivenEpoch) -> Result<Option<Vec<u8>>, OutOfMemory>
-    ensures { Writes (evidence_if (not (is_formed o.now.table.now (given_view o.now).closing.closing)) (K4 (record { closing = (given_view o.now).closing.envelope; table = o.now.table.now }))) result }
+    ensures { Writes (bad_table_found (given_view o.now)) result }
 {
     if is_formed(o.table, &o.closing.closing) {
         return Ok(None);
@@ -68,9 +68,9 @@ pub(crate) fn bad_table(alloc: Global, o: &GivenEpoch) -> Result<Option<Vec<u8>>
 
 // A block that went back, where both tables are well formed.
 pub(crate) fn regressed(alloc: Global, o: &GivenEpoch) -> Result<Option<Vec<u8>>, OutOfMemory>
-    requires before { is_formed_before o.now.table_before.now (before_in (given_view o.now).before) ≡ true }
-    requires after { is_formed o.now.table.now (given_view o.now).closing.closing ≡ true }
-    ensures { Writes (option_map (λ b. K6 (record { block = b; given = framing (given_view o.now) })) (least_regressed (old_rows (given_view o.now)) (new_rows (given_view o.now)))) result }
+    requires before { IsFormedBefore (given_view o.now) }
+    requires after { IsFormed (given_view o.now) }
+    ensures { Writes (regressed_found (given_view o.now)) result }
 {
     let before = table_in(o.table_before);
     let after = table_in(o.table);

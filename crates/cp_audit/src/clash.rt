@@ -9,9 +9,9 @@ ghost use Rattle.cp_statements.specs.View.{envelope_view};
 ghost use Rattle.cp_evidence.specs.Evidence.Evidence.{K1, K2};
 ghost use Rattle.cp_evidence.specs.Material.{closing_envelopes};
 ghost use Rattle.cp_evidence.specs.Verdict.{clash, same_leaf, same_place};
-ghost use Rattle.cp_audit.specs.Firsts.{KeepsFirsts, differ, kept_in, kept_with, leaf_key, other_at, pair_view, place_key, same_by};
+ghost use Rattle.cp_audit.specs.Firsts.{FindsLeafClash, FindsOther, FindsPair, KeepsMoreLeaves, KeepsNext, KeepsWhereNone, leaf_clash, place_key};
 ghost use Rattle.cp_audit.specs.Given.{given_view};
-ghost use Rattle.cp_audit.specs.Rows.{Writes};
+ghost use Rattle.cp_audit.specs.Rows.{Writes, leaf_clash_found, one_leaf_found, one_place_found, place_clash_in};
 
 use crate::given::GivenEpoch;
 use cp_bytes::OutOfMemory;
@@ -33,7 +33,7 @@ pub(crate) fn one_leaf(
     o: &GivenEpoch,
     xs: &[Envelope],
 ) -> Result<Option<Vec<u8>>, OutOfMemory>
-    ensures { Writes (option_map (λ p. K2 (record { x = p.0; y = p.1 })) (clash same_leaf [] (closing_envelopes (given_view o.now) ++ map envelope_view xs.now))) result }
+    ensures { Writes (one_leaf_found (given_view o.now) (map envelope_view xs.now)) result }
 {
     let Some(two) = any_leaf_clash(alloc, o, xs)? else {
         return Ok(None);
@@ -49,7 +49,7 @@ pub(crate) fn one_place(
     store: &Store,
     xs: &[Envelope],
 ) -> Result<Option<Vec<u8>>, OutOfMemory>
-    ensures { Writes (option_map (λ p. K1 (record { x = p.0; y = p.1 })) (clash (same_place (sha256 store.now.key)) [] (map envelope_view xs.now))) result }
+    ensures { Writes (one_place_found (sha256 store.now.key) (map envelope_view xs.now)) result }
 {
     let Some(two) = place_clash(alloc, store, xs)? else {
         return Ok(None);
@@ -66,7 +66,7 @@ fn any_leaf_clash<'a>(
     o: &GivenEpoch<'a>,
     xs: &[Envelope<'a>],
 ) -> Result<Option<Two<'a>>, OutOfMemory>
-    ensures { IfOk result (λ two. option_map pair_view two ≡ clash same_leaf [] (closing_envelopes (given_view o.now) ++ map envelope_view xs.now)) }
+    ensures { FindsPair (leaf_clash_found (given_view o.now) (map envelope_view xs.now)) result }
 {
     let mut firsts = BTreeMap::new(alloc);
     match given_clash(&mut firsts, o)? {
@@ -81,8 +81,8 @@ fn given_clash<'a>(
     o: &GivenEpoch<'a>,
 ) -> Result<Option<Two<'a>>, OutOfMemory>
     requires { IsEmpty firsts.old }
-    ensures found { IfOk result (λ two. option_map pair_view two ≡ clash (differ (same_by nat_cmp) leaf_key) [] (closing_envelopes (given_view o.now))) }
-    ensures kept { IfOk result (λ two. two ≡ None → KeepsFirsts (same_by nat_cmp) leaf_key (closing_envelopes (given_view o.now)) (kept_in nat_cmp firsts.new)) }
+    ensures found { FindsPair (leaf_clash [] (closing_envelopes (given_view o.now))) result }
+    ensures kept { KeepsWhereNone (closing_envelopes (given_view o.now)) firsts.new result }
 {
     match &o.before {
         Before::Nothing => leaf_clash(firsts, &[o.closing.envelope]),
@@ -90,14 +90,14 @@ fn given_clash<'a>(
     }
 }
 
-// The first envelope that has the leaf of an earlier one and another text, and that earlier one. The
-// map keeps the first envelope of each leaf.
+// The first envelope that has the leaf of an earlier one and another text, and that earlier one.
+// The map keeps the first envelope of each leaf.
 fn leaf_clash<'a>(
     firsts: &mut BTreeMap<u32, Envelope<'a>>,
     xs: &[Envelope<'a>],
 ) -> Result<Option<Two<'a>>, OutOfMemory>
-    ensures found { IfOk result (λ two. (earlier : List spec.Envelope) → KeepsFirsts (same_by nat_cmp) leaf_key earlier (kept_in nat_cmp firsts.old) → option_map pair_view two ≡ clash (differ (same_by nat_cmp) leaf_key) earlier (map envelope_view xs.now)) }
-    ensures kept { IfOk result (λ two. (earlier : List spec.Envelope) → KeepsFirsts (same_by nat_cmp) leaf_key earlier (kept_in nat_cmp firsts.old) → two ≡ None → KeepsFirsts (same_by nat_cmp) leaf_key (earlier ++ map envelope_view xs.now) (kept_in nat_cmp firsts.new)) }
+    ensures found { FindsLeafClash firsts.old (map envelope_view xs.now) result }
+    ensures kept { KeepsMoreLeaves firsts.old firsts.new (map envelope_view xs.now) result }
 {
     for x in xs {
         if let Some(first) = other_text(firsts, Some(leaf(x)), x)? {
@@ -114,7 +114,7 @@ fn place_clash<'a>(
     store: &Store,
     xs: &[Envelope<'a>],
 ) -> Result<Option<Two<'a>>, OutOfMemory>
-    ensures { IfOk result (λ two. option_map pair_view two ≡ clash (same_place (sha256 store.now.key)) [] (map envelope_view xs.now)) }
+    ensures { FindsPair (place_clash_in (sha256 store.now.key) (map envelope_view xs.now)) result }
 {
     let mut firsts = BTreeMap::new(alloc);
     for x in xs {
@@ -132,8 +132,8 @@ fn other_text<'a, K: Ord + Drop>(
     key: Option<K>,
     x: &Envelope<'a>,
 ) -> Result<Option<Envelope<'a>>, OutOfMemory>
-    ensures found { IfOk result (λ first. option_map envelope_view first ≡ other_at (kept_in K.cmp firsts.old) key (envelope_view x.now)) }
-    ensures kept { OnOk result ((q : K) → kept_in K.cmp firsts.new q ≡ kept_with (same_by K.cmp) (kept_in K.cmp firsts.old) key (envelope_view x.now) q) }
+    ensures found { FindsOther K.cmp firsts.old key (envelope_view x.now) result }
+    ensures kept { KeepsNext K.cmp firsts.old firsts.new key (envelope_view x.now) result }
 {
     let Some(key) = key else {
         return Ok(None);

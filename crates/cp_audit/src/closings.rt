@@ -2,7 +2,8 @@
 ghost use Rattle.std.specs.Prelude.{◌≡◌, ◌+◌, ◌==◌, option_map};
 ghost use Rattle.cp_statements.specs.View.{envelope_view};
 ghost use Rattle.cp_evidence.specs.Material.{closing_before_in, closing_in, signed_closing};
-ghost use Rattle.cp_evidence.specs.View.{before_view, signed_closing_view};
+ghost use Rattle.cp_evidence.specs.View.{before_view};
+ghost use Rattle.cp_audit.specs.View.{signed_view};
 
 use cp_evidence::{Before, SignedClosing, Store};
 use cp_statements::Envelope;
@@ -14,7 +15,7 @@ fn signed_closing<'a>(
     epoch: u64,
     x: Envelope<'a>,
 ) -> Option<SignedClosing<'a>>
-    ensures { option_map signed_closing_view result ≡ signed_closing store.now.key back epoch (envelope_view x.entry) }
+    ensures { signed_view result ≡ signed_closing store.now.key back epoch (envelope_view x.entry) }
 {
     if !store.signed(&x) {
         return None;
@@ -38,7 +39,7 @@ pub(crate) fn closing_in<'a>(
     epoch: u64,
     bytes: &'a [u8],
 ) -> Option<SignedClosing<'a>>
-    ensures { option_map signed_closing_view result ≡ closing_in store.now.key back epoch bytes.now }
+    ensures { signed_view result ≡ closing_in store.now.key back epoch bytes.now }
 {
     match Envelope::read(bytes) {
         Ok(x) => signed_closing(store, back, epoch, x),

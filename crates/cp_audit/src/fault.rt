@@ -3,7 +3,7 @@ ghost use Rattle.std.specs.Prelude.{◌≡◌, ◌&&◌, true, map, None, is_non
 ghost use Rattle.std.specs.List.{AllByRecursion};
 ghost use Rattle.cp_chain.specs.Log.{parts_ascend};
 ghost use Rattle.cp_evidence.specs.Material.{log_fault, part_of};
-ghost use Rattle.cp_audit.specs.Faults.{IsLeast, astray, lacks, least_two};
+ghost use Rattle.cp_audit.specs.Faults.{IsLeast, astray, lacks, least_two, log_fault_in};
 ghost use Rattle.cp_audit.specs.Parts.{part_view, IsFramed, frame_in};
 
 use crate::frames::Frames;
@@ -16,7 +16,7 @@ use crate::walk::{count_at_place, place_from};
 pub(crate) fn log_fault(frames: &Frames, parts: &[Part]) -> Option<u64>
     requires ascend { parts_ascend None (map part_view parts.now) ≡ true }
     requires framed { AllByRecursion (IsFramed frames.now) parts.now }
-    ensures { result ≡ log_fault (frame_in frames.now) frames.now.before frames.now.after (map part_view parts.now) }
+    ensures { result ≡ log_fault_in frames.now (map part_view parts.now) }
 {
     least(first_lacking(frames, parts), first_astray(frames, parts))
 }

@@ -2,7 +2,7 @@
 ghost use Rattle.std.specs.Prelude.{◌≡◌, true};
 ghost use Rattle.cp_tips.specs.Table.{ascends};
 ghost use Rattle.cp_chain.specs.View.{frame_view};
-ghost use Rattle.cp_evidence.specs.Material.{frame_between, rows_in_table};
+ghost use Rattle.cp_evidence.specs.Material.{rows_in_table};
 
 use cp_chain::Frame;
 use cp_families::Families;
@@ -22,9 +22,11 @@ pub(crate) struct Frames<'a> {
 }
 
 impl<'a> Frames<'a> {
+    ghost use Rattle.cp_audit.specs.Parts.{frame_in};
+
     // The frame of a block's segment.
     pub(crate) fn at(&self, block: u64) -> Frame<'a>
-        ensures { frame_view result ≡ frame_between self.now.store self.now.families self.now.epoch self.now.before self.now.after block }
+        ensures { frame_view result ≡ frame_in self.now block }
     {
         Frame {
             store: self.store,

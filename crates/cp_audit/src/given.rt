@@ -1,6 +1,6 @@
 //! Whether an epoch's material is given.
 ghost use Rattle.std.specs.Prelude.{◌≡◌};
-ghost use Rattle.cp_audit.specs.Given.{Gives, GivesLog, parts_read};
+ghost use Rattle.cp_audit.specs.Given.{Gives, GivesLogOf, parts_read};
 ghost use Rattle.cp_audit.specs.View.{material_view};
 ghost use Rattle.cp_evidence.specs.View.{before_view, signed_closing_view};
 
@@ -102,7 +102,7 @@ fn log_where_read<'a>(
     before: &Before<'a>,
     closing: &SignedClosing<'a>,
 ) -> Result<Option<Vec<Part<'a>>>, AuditRefusal>
-    ensures { GivesLog store.now families.now (material_view m.now) (before_view before.now) (signed_closing_view closing.now) result }
+    ensures { GivesLogOf store.now families.now m.now before.now closing.now result }
 {
     if !is_formed_before(m.table_before, before) {
         return Ok(None);

@@ -2,9 +2,10 @@
 ghost use Rattle.cp_statements.specs.View.{envelope_view};
 ghost use Rattle.cp_chain.specs.Rules.{first_of};
 ghost use Rattle.cp_evidence.specs.Verdict as verdict;
+ghost use Rattle.cp_evidence.specs.Verdict.{guilt_by_kind};
 ghost use Rattle.cp_audit.specs.Given.{given_view};
 ghost use Rattle.cp_audit.specs.LogParts.{AreLogParts, StandWhereRead};
-ghost use Rattle.cp_audit.specs.Rows.{Writes};
+ghost use Rattle.cp_audit.specs.Rows.{WritesFirst};
 ghost use Rattle.std.specs.Prelude.{map};
 
 use crate::alone::{no_statement, wrong_head};
@@ -28,7 +29,7 @@ pub(crate) fn guilt(
     xs: &[Envelope],
 ) -> Result<Option<Vec<u8>>, OutOfMemory>
     requires { AreLogParts (given_view o.now) parts.now }
-    ensures { Writes (first_of (verdict.guilt_by_kind (given_view o.now) (map envelope_view xs.now))) result }
+    ensures { WritesFirst (guilt_by_kind (given_view o.now) (map envelope_view xs.now)) result }
 {
     if let Some(found) = by_one(alloc, o, xs)? {
         return Ok(Some(found));
@@ -44,7 +45,7 @@ pub(crate) fn guilt(
 
 // What one hand-in shows.
 fn by_one(alloc: Global, o: &GivenEpoch, xs: &[Envelope]) -> Result<Option<Vec<u8>>, OutOfMemory>
-    ensures { Writes (first_of (verdict.by_one (given_view o.now) (map envelope_view xs.now))) result }
+    ensures { WritesFirst (verdict.by_one (given_view o.now) (map envelope_view xs.now)) result }
 {
     if let Some(found) = no_statement(alloc, &o.store, xs)? {
         return Ok(Some(found));
@@ -57,7 +58,7 @@ fn by_one(alloc: Global, o: &GivenEpoch, xs: &[Envelope]) -> Result<Option<Vec<u
 
 // What two texts show.
 fn by_two(alloc: Global, o: &GivenEpoch, xs: &[Envelope]) -> Result<Option<Vec<u8>>, OutOfMemory>
-    ensures { Writes (first_of (verdict.by_two (given_view o.now) (map envelope_view xs.now))) result }
+    ensures { WritesFirst (verdict.by_two (given_view o.now) (map envelope_view xs.now)) result }
 {
     if let Some(found) = one_leaf(alloc, o, xs)? {
         return Ok(Some(found));
@@ -68,7 +69,7 @@ fn by_two(alloc: Global, o: &GivenEpoch, xs: &[Envelope]) -> Result<Option<Vec<u
 // What the closings and the tables show. Where the log was read, the tables were judged before.
 fn by_tables(alloc: Global, o: &GivenEpoch) -> Result<Option<Vec<u8>>, OutOfMemory>
     requires { StandWhereRead (given_view o.now) }
-    ensures { Writes (first_of (verdict.by_tables (given_view o.now))) result }
+    ensures { WritesFirst (verdict.by_tables (given_view o.now)) result }
 {
     if let Some(found) = wrong_link(alloc, o)? {
         return Ok(Some(found));
@@ -93,7 +94,7 @@ fn by_log(
     xs: &[Envelope],
 ) -> Result<Option<Vec<u8>>, OutOfMemory>
     requires { AreLogParts (given_view o.now) parts.now }
-    ensures { Writes (first_of (verdict.by_log (given_view o.now) (map envelope_view xs.now))) result }
+    ensures { WritesFirst (verdict.by_log (given_view o.now) (map envelope_view xs.now)) result }
 {
     if let Some(found) = illegal(alloc, o, parts)? {
         return Ok(Some(found));

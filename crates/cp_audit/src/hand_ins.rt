@@ -2,7 +2,7 @@
 ghost use Rattle.std.specs.Prelude.{◌≡◌, [], ◌∷◌, ◌++◌, if◌then◌else◌, OnOk};
 ghost use Rattle.cp_statements.specs.View.{envelope_view};
 ghost use Rattle.cp_evidence.specs.Conditions.{signed_by};
-ghost use Rattle.cp_audit.specs.HandIns.{Collects};
+ghost use Rattle.cp_audit.specs.HandIns.{Collects, AddsSigned};
 
 use crate::AuditRefusal;
 use cp_bytes::{Cut, OutOfMemory};
@@ -47,7 +47,7 @@ fn keep<'a>(
     x: Envelope<'a>,
     verified: &mut Vec<Envelope<'a>>,
 ) -> Result<(), OutOfMemory>
-    ensures { OnOk result (verified.new.items ≡ (if signed_by store.now.key (envelope_view x.entry) then verified.old.items ++ x.entry ∷ [] else verified.old.items)) }
+    ensures { AddsSigned store.now.key x.entry verified.old verified.new result }
 {
     if store.signed(&x) {
         verified.push(x)?;

@@ -1,6 +1,6 @@
 //! The log of an epoch, read.
 ghost use Rattle.std.specs.Prelude.{◌≡◌, option_map, IfOk};
-ghost use Rattle.cp_audit.specs.Parts.{ReadsLog, TakesCount};
+ghost use Rattle.cp_audit.specs.Parts.{ReadsWholeLog, TakesCount};
 
 use crate::frames::Frames;
 use crate::part::Part;
@@ -15,7 +15,7 @@ pub(crate) fn read_log<'a>(
     frames: &Frames<'a>,
     bytes: &'a [u8],
 ) -> Result<Option<Vec<Part<'a>>>, OutOfMemory>
-    ensures { IfOk result (λ parts. ReadsLog frames.now (option_map (λ v. v.items) parts) bytes.now) }
+    ensures { ReadsWholeLog frames.now bytes.now result }
 {
     let mut cut = Cut::new(bytes);
     let Some(count) = take_count(frames.epoch, &mut cut) else {

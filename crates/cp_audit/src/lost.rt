@@ -11,8 +11,8 @@ ghost use Rattle.cp_evidence.specs.Evidence.{evidence_text};
 ghost use Rattle.cp_evidence.specs.Material.{frame_for, segment_for, store_id};
 ghost use Rattle.cp_evidence.specs.Verdict.{is_lost, lost_evidence, segment_beside};
 ghost use Rattle.cp_audit.specs.Given.{given_view};
-ghost use Rattle.cp_audit.specs.LogParts.{AreLogParts};
-ghost use Rattle.cp_audit.specs.Rows.{Writes};
+ghost use Rattle.cp_audit.specs.LogParts.{AreLogParts, stands_in_log, texts_beside};
+ghost use Rattle.cp_audit.specs.Rows.{Writes, WritesEvidence, lost_found};
 
 use crate::by_tables::fits;
 use crate::given::GivenEpoch;
@@ -31,7 +31,7 @@ pub(crate) fn lost(
     xs: &[Envelope],
 ) -> Result<Option<Vec<u8>>, OutOfMemory>
     requires { AreLogParts (given_view o.now) parts.now }
-    ensures { Writes (option_map (lost_evidence (given_view o.now)) (find (is_lost (given_view o.now)) (map envelope_view xs.now))) result }
+    ensures { Writes (lost_found (given_view o.now) (map envelope_view xs.now)) result }
 {
     for x in xs {
         if is_lost(o, parts, x) {
@@ -56,7 +56,7 @@ fn is_lost(o: &GivenEpoch, parts: &[Part], x: &Envelope) -> bool
 // Whether the attestation stands in its block's segment; it doesn't where there is none.
 fn stands(o: &GivenEpoch, parts: &[Part], a: &Attestation) -> bool
     requires { AreLogParts (given_view o.now) parts.now }
-    ensures { result ≡ option_map_or (λ texts. stands (frame_for (given_view o.now) a.now.block) texts (attestation_view a.now)) (segment_for (given_view o.now) a.now.block) false }
+    ensures { result ≡ stands_in_log (given_view o.now) (attestation_view a.now) }
 {
     match part_at(parts, a.block) {
         Some(part) => part.stands(a),
@@ -72,7 +72,7 @@ fn write_lost(
     x: &Envelope,
 ) -> Result<Vec<u8>, OutOfMemory>
     requires { AreLogParts (given_view o.now) parts.now }
-    ensures { IfOk result (λ out. (out.items ≡ evidence_text (lost_evidence (given_view o.now) (envelope_view x.now))) × LongPartsFit (lost_evidence (given_view o.now) (envelope_view x.now))) }
+    ensures { WritesEvidence (lost_evidence (given_view o.now) (envelope_view x.now)) result }
 {
     if !fits(o.table_before) || !fits(o.table) {
         return Err(AllocError);
@@ -95,11 +95,11 @@ fn write_lost(
     Ok(out)
 }
 
-// The bytes of the segment that stands beside an attestation in evidence: that of its block, and one
-// without texts where there is none or the attestation is outside the counts.
+// The bytes of the segment that stands beside an attestation in evidence: that of its block, and
+// one without texts where there is none or the attestation is outside the counts.
 fn segment_beside<'a>(o: &GivenEpoch, parts: &[Part<'a>], x: &Envelope) -> &'a [u8]
     requires { AreLogParts (given_view o.now) parts.now }
-    ensures { result.now ≡ segment_text (segment_beside (given_view o.now) (attestation_by (store_id (given_view o.now)) x.now.text.now)) }
+    ensures { result.now ≡ segment_text (texts_beside (given_view o.now) x.now.text.now) }
 {
     let Some(a) = o.store.attestation(x.text) else {
         return no_texts();

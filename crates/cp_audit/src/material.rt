@@ -1,8 +1,8 @@
 //! What an auditor is handed of an epoch.
 use lms_tree::PublicKey;
 
-/// The material of a closed epoch, from any store whatever (this project's own). For epoch 1 `before`
-/// and `table_before` are empty.
+/// The material of a closed epoch, from any store whatever (this project's own). For epoch 1
+/// `before` and `table_before` are empty.
 #[derive(Clone, Copy)]
 pub struct Material<'a> {
     /// The store's key.

@@ -30,6 +30,8 @@ pub(crate) struct Part<'a> {
 }
 
 impl<'a> Part<'a> {
+    ghost use Rattle.cp_audit.specs.Parts.{is_at_place, stands_in};
+
     // The text at the place.
     fn text(&self, place: u32) -> &'a [u8]
         requires { place < length self.now.segment }
@@ -65,7 +67,7 @@ impl<'a> Part<'a> {
     // Whether the attestation is of this segment.
     #[tactic(auto, unfolding(cp_chain::specs::Standing::stands))]
     pub(crate) fn stands(&self, a: &Attestation) -> bool
-        ensures { result ≡ stands (frame_view self.now.frame) self.now.segment (attestation_view a.now) }
+        ensures { result ≡ stands_in self.now a.now }
     {
         if a.position < self.frame.before.count || a.position >= self.frame.after.count {
             return false;
@@ -75,7 +77,7 @@ impl<'a> Part<'a> {
 
     // Whether the attestation is of the text at the place.
     fn stands_at(&self, place: u64, a: &Attestation) -> bool
-        ensures { result ≡ stands_at self.now.frame.before.head self.now.segment (attestation_view a.now) place }
+        ensures { result ≡ is_at_place self.now a.now place }
     {
         if place >= u64::from(self.segment.count()) {
             return false;

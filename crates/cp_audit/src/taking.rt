@@ -2,7 +2,7 @@
 ghost use Rattle.std.specs.Prelude.{◌≡◌, option_map, None, Ok, IfOk};
 ghost use Rattle.cp_chain.specs.Log.{comes_behind, log_parts_at};
 ghost use Rattle.cp_chain.specs.Segment.{segment_at, segment_text};
-ghost use Rattle.cp_audit.specs.Parts.{TakesPart, TakesParts, TakesBlock};
+ghost use Rattle.cp_audit.specs.Parts.{ReadsPart, ReadsParts, TakesBlock};
 
 use crate::frames::Frames;
 use crate::part::{Part, heads_of, texts_of};
@@ -17,7 +17,7 @@ pub(crate) fn take_part<'a>(
     block: u64,
     cut: &mut Cut<'a>,
 ) -> Result<Option<Part<'a>>, OutOfMemory>
-    ensures { IfOk result (λ part. TakesPart frames.now block part (segment_at cut.old.rest) cut.new.rest) }
+    ensures { ReadsPart frames.now block cut.old cut.new result }
 {
     let rest = cut.rest();
     let Ok(segment) = Segment::take(cut) else {
@@ -75,7 +75,7 @@ pub(crate) fn take_parts<'a>(
     count: u32,
     cut: &mut Cut<'a>,
 ) -> Result<Option<Vec<Part<'a>>>, OutOfMemory>
-    ensures { IfOk result (λ parts. TakesParts frames.now (option_map (λ v. v.items) parts) (log_parts_at count None cut.old.rest) cut.new.rest) }
+    ensures { ReadsParts frames.now count cut.old cut.new result }
 {
     let mut parts = Vec::new(alloc);
     let mut last = None;

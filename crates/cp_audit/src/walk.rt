@@ -5,8 +5,8 @@ ghost use Rattle.cp_audit.specs.Walks.{AreBelow, IsPlace};
 
 use cp_tips::TableText;
 
-// The place of the first row from `from` on whose block isn't below this one; the number of rows where
-// there is none. All rows before `from` are below it.
+// The place of the first row from `from` on whose block isn't below this one; the number of rows
+// where there is none. All rows before `from` are below it.
 pub(crate) fn place_from(table: &TableText, from: usize, block: u64) -> usize
     requires within { from ≤ length table.now }
     requires below { AreBelow table.now block from }

@@ -17,6 +17,7 @@ pub enum What {
     Table,
     /// The bytes spell no log of the epoch.
     LogText,
-    /// The least block whose segment in the log doesn't reach, or that has none though its count rose.
+    /// The least block whose segment in the log doesn't reach, or that has none though its count
+    /// rose.
     Log(u64),
 }

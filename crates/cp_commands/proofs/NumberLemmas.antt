@@ -5,7 +5,7 @@ use Rattle.std.specs.Str.Parse.{digits_value}
 use Rattle.std.proofs.lemmas.Bool.{le-leb, leb-true}
 use Rattle.std.proofs.lemmas.Fmt.{decimal_is_IsNumeral}
 use Rattle.std.proofs.lemmas.Slice.Eq.{bytes_eq-Decides}
-use Rattle.cp_commands.specs.Numbers.{number_in}
+use Rattle.cp_words.specs.Numbers.{number_in}
 
 -- a text that spells a number is read as that number
 pub number_some : (least most n : ℕ) (text : List ℕ) → text ≡ decimal n → least ≤ n → n ≤ most → most < 2 ^ 64 → number_in least most text ≡ Some n

@@ -1,5 +1,7 @@
 -- Commands and the words that spell them (this project's own). A word is the list of its bytes.
 use Rattle.std.specs.Prelude.{ℕ, Bool, List, [], ◌∷◌, Option, Some, None, bytes_eq, codes, if◌then◌else◌}
+use Rattle.cp_words.specs.Numbers.{number_in}
+use Rattle.cp_words.specs.Options.{◌>>=◌}
 use Rattle.cp_words.specs.Pairs.{names_in, are_pairs, value_in}
 use Rattle.lms_ots.specs.declared.ots_type.OtsType.{OtsType}
 use Rattle.lms_ots.specs.declared.ots_type.OtsType.TheVariants.{W1, W2, W4, W8}
@@ -8,7 +10,7 @@ use Rattle.lms_tree.specs.declared.height.Height.TheVariants.{H5, H10, H15}
 use Rattle.cp_commands.specs.ClientWords.{CallWords, PutWords, GetWords, AcceptWords}
 use Rattle.cp_commands.specs.AuditWords.{AuditWords}
 use Rattle.cp_commands.specs.MoreWords.{CertifyWords, ForgeryWords}
-use Rattle.cp_commands.specs.Numbers.{number_in, number_given}
+use Rattle.cp_commands.specs.Numbers.{number_given}
 use Rattle.cp_commands.specs.ReplayWords.{ReplayWords}
 use Rattle.cp_commands.specs.declared.by.By.{By}
 use Rattle.cp_commands.specs.declared.by.By.TheVariants.{Core, Shards}
@@ -25,11 +27,6 @@ pub data Command : Type 0 where
   Certify : CertifyWords → Command
   JudgeLife : List ℕ → List ℕ → List ℕ → Command  -- the names of the operator's key's, the certificate's and the evidence's file
   Forgery : ForgeryWords → Command
-
-infixl 10 ◌>>=◌
-abbrev pub ◌>>=◌ : {A B : Type 0} → Option A → (A → Option B) → Option B
-None >>= f = None
-(Some x) >>= f = f x
 
 abbrev pub is_word : List ℕ → List ℕ → Bool
 is_word word name = bytes_eq word name

@@ -1,7 +1,7 @@
 //! The words of the client's commands.
 ghost use Rattle.std.specs.Prelude.{◌≡◌, ◌<◌, ◌^◌, ℕ, Some, None, map, string_bytes};
 ghost use Rattle.std.specs.Option.{option_map};
-ghost use Rattle.cp_commands.specs.Numbers.{number_in, number_given};
+ghost use Rattle.cp_commands.specs.Numbers.{number_given};
 ghost use Rattle.cp_commands.specs.View.{call_words_view, command_view};
 ghost use Rattle.cp_commands.specs.Commands.{call_in, height_wanted, width_wanted, ask_put_of, ask_get_of, accept_words_of};
 

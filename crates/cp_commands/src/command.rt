@@ -48,7 +48,8 @@ pub enum Command<'a> {
     Replay(ReplayWords<'a>),
     /// `certify`: writes an operator's key, the certificate of a life and the life's seed.
     Certify(CertifyWords<'a>),
-    /// `judge-life`: whether the evidence convicts the life of the certificate, under the operator's key.
+    /// `judge-life`: whether the evidence convicts the life of the certificate, under the
+    /// operator's key.
     JudgeLife {
         key: &'a str,
         certificate: &'a str,

@@ -30,6 +30,17 @@ guilty_text (OfKind kind) = codes "guilty K" ++ decimal kind
 guilty_text (WentBack block) = codes "guilty K6 block=" ++ decimal block
 guilty_text (BrokeRule block rule place other) = codes "guilty K7 block=" ++ (decimal block ++ (codes " rule=" ++ (decimal rule ++ (codes " place=" ++ (decimal place ++ (codes " other=" ++ decimal other))))))
 
+-- a number behind its label
+abbrev pub labelled : List ℕ → ℕ → List ℕ
+labelled label number = label ++ decimal number
+
+-- a rule of a block that is broken, and then its places
+abbrev pub broken_text : ℕ → ℕ → List ℕ
+broken_text block rule = (codes "guilty K7 block=" ++ decimal block) ++ (codes " rule=" ++ decimal rule)
+
+abbrev pub places_text : ℕ → ℕ → List ℕ
+places_text place other = (codes " place=" ++ decimal place) ++ (codes " other=" ++ decimal other ++ codes "\n")
+
 abbrev pub guilty : Guilt → Outcome
 guilty g = record { status = 1; text = line (guilty_text g) }
 

@@ -39,6 +39,10 @@ valid = record { status = 0; text = line (codes "valid") }
 abbrev pub invalid : Outcome
 invalid = record { status = 1; text = line (codes "invalid") }
 
+-- the line of a key, its digits in lower-case hexadecimal
+abbrev pub key_line : List ℕ → List ℕ
+key_line key = codes "key " ++ encode_lower key ++ codes "\n"
+
 -- the public key that was written
 abbrev pub made : List ℕ → Outcome
 made key = record { status = 0; text = line (codes "key " ++ encode_lower key) }

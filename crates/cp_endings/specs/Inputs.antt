@@ -1,6 +1,7 @@
 -- What reading an input file gives.
 use Rattle.std.specs.Prelude.{ℕ, ◌≡◌, ◌⊎◌, ◌≤◌, Bool, List, Option, Result, Ok, Err, IsTrue}
 use Rattle.std.specs.Global.{Vec}
+use Rattle.cp_outside.specs.declared.folders.Folder as folder
 use Rattle.cp_endings.specs.Endings.{fault}
 use Rattle.cp_endings.specs.Folders.{input_of, Stops}
 use Rattle.cp_endings.specs.View.{ending_view}
@@ -22,3 +23,8 @@ pub record ReadsInput (tells : Bool) (file : Option (List ℕ)) (name : List ℕ
   pub gives : GivesInput content name limit before now result
   pub later : before ≤ now
   pub failed : StopsAtFault before now result
+
+-- the same of a folder, as its contract sees it before and after
+module _ {F : Type 0} (g : folder.Ghosts F) where
+  abbrev pub ReadsFrom : F → F → List ℕ → ℕ → Result (Vec ℕ) Ending → Type 0
+  ReadsFrom old new name limit result = ReadsInput (g.tells old) (g.file old name) name limit (g.read_faults old) (g.read_faults new) result

@@ -4,6 +4,7 @@ use Rattle.std.specs.Prelude.{ℕ, ◌≡◌, ◌⊎◌, List, Option, Result, M
 use Rattle.std.specs.Io.KnownBytes.{Appends}
 use Rattle.cp_outside.specs.Causes.{Rose, HasCause, AppendsPart}
 use Rattle.cp_outside.specs.declared.failures.Failed.{Failed}
+use Rattle.cp_outside.specs.declared.endpoints.Endpoint as endpoint
 use Rattle.cp_endings.specs.Endings.{Outcome, line_of, unprinted_status}
 
 -- the bytes were written, or a prefix of them that is not the whole, and the count rose
@@ -25,3 +26,11 @@ pub record FailsToPrint (old new : Option (List ℕ)) (before now : ℕ) (ending
 -- how an ending is reported
 abbrev pub Reports : Option (List ℕ) → Option (List ℕ) → ℕ → ℕ → Outcome → ℕ → Type 0
 Reports old new before now ending status = Prints old new ending status ⊎ FailsToPrint old new before now ending status
+
+-- the same of a sink, as its contract sees it before and after
+module _ {S : Type 0} (g : endpoint.Ghosts S) where
+  abbrev pub PutsTo : S → S → Result (Unit {0}) Failed → List ℕ → Type 0
+  PutsTo old new result bytes = Puts (g.held old) (g.held new) (g.write_faults old) (g.write_faults new) result bytes
+
+  abbrev pub ReportsTo : S → S → Outcome → ℕ → Type 0
+  ReportsTo old new ending status = Reports (g.held old) (g.held new) (g.write_faults old) (g.write_faults new) ending status

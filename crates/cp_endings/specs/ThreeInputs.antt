@@ -50,3 +50,7 @@ pub record ReadsThree (a b c : Input) (old new : Files) (result : Result ThreeFi
   pub gives : GivesThree (three_of first_file a second_file b third_file c) old.read_faults new.read_faults result
   pub later : old.read_faults ≤ new.read_faults
   pub failed : StopsAtFault old.read_faults new.read_faults result
+
+-- the same of three inputs, as the code has them
+abbrev pub ReadsThreeOf : code.Input → code.Input → code.Input → Files → Files → Result ThreeFiles Ending → Type 0
+ReadsThreeOf a b c old new result = ReadsThree (input_view a) (input_view b) (input_view c) old new result

@@ -1,11 +1,11 @@
 //! Printing how `audit` ended.
 ghost use Rattle.std.specs.Prelude.{◌++◌, codes, decimal};
 ghost use Rattle.cp_audit.specs.View.{what_view};
-ghost use Rattle.cp_endings.specs.AuditEndings.{clean, guilty, not_given};
+ghost use Rattle.cp_endings.specs.AuditEndings.{broken_text, clean, guilty, labelled, not_given, places_text};
 ghost use Rattle.cp_endings.specs.AuditView.{audit_ending_view};
 ghost use Rattle.cp_endings.specs.EpochFiles.{epoch_file};
 ghost use Rattle.cp_endings.specs.Endings.{line_of, missing};
-ghost use Rattle.cp_endings.specs.Reports.{Puts};
+ghost use Rattle.cp_endings.specs.Reports.{PutsTo};
 
 use crate::audit_ending::AuditEnding;
 use crate::epoch_part::EpochPart;
@@ -18,7 +18,7 @@ use itoa::Buffer;
 // Writes a label and a number.
 #[tactic(auto, using(crate::proofs::Pieces::pieces))]
 fn put_labelled<S: Sink>(out: &mut S, label: &[u8], number: u64) -> Result<(), Failed>
-    ensures { Puts (S.held out.old) (S.held out.new) (S.write_faults out.old) (S.write_faults out.new) result (label.now ++ decimal number) }
+    ensures { PutsTo S.Endpoint out.old out.new result (labelled label.now number) }
 {
     match put_piece(out, label) {
         Ok(()) => {
@@ -38,7 +38,8 @@ fn put_two<S: Sink>(
     second_label: &[u8],
     second: u64,
 ) -> Result<(), Failed>
-    ensures { Puts (S.held out.old) (S.held out.new) (S.write_faults out.old) (S.write_faults out.new) result ((label.now ++ decimal number) ++ (second_label.now ++ decimal second)) }
+    ensures { PutsTo S.Endpoint out.old out.new result
+        (labelled label.now number ++ labelled second_label.now second) }
 {
     match put_labelled(out, label, number) {
         Ok(()) => put_labelled(out, second_label, second),
@@ -49,7 +50,7 @@ fn put_two<S: Sink>(
 // Writes the line of a clean epoch.
 #[tactic(auto, using(crate::proofs::Pieces::pieces))]
 fn put_clean<S: Sink>(out: &mut S, entries: u64, handed: u64, aside: u64) -> Result<(), Failed>
-    ensures { Puts (S.held out.old) (S.held out.new) (S.write_faults out.old) (S.write_faults out.new) result (line_of (clean entries handed aside)) }
+    ensures { PutsTo S.Endpoint out.old out.new result (line_of (clean entries handed aside)) }
 {
     match put_two(out, b"clean entries=", entries, b" handed=", handed) {
         Ok(()) => put_number(out, b" aside=", aside),
@@ -66,8 +67,8 @@ fn put_broken<S: Sink>(
     place: u64,
     other: u64,
 ) -> Result<(), Failed>
-    ensures { Puts (S.held out.old) (S.held out.new) (S.write_faults out.old) (S.write_faults out.new) result
-        (((codes "guilty K7 block=" ++ decimal block) ++ (codes " rule=" ++ decimal rule)) ++ ((codes " place=" ++ decimal place) ++ (codes " other=" ++ decimal other ++ codes "\n"))) }
+    ensures { PutsTo S.Endpoint out.old out.new result
+        (broken_text block rule ++ places_text place other) }
 {
     match put_two(out, b"guilty K7 block=", block, b" rule=", u64::from(rule)) {
         Ok(()) => put_places(out, place, other),
@@ -78,7 +79,7 @@ fn put_broken<S: Sink>(
 // Writes the places where a rule is broken, and ends the line.
 #[tactic(auto, using(crate::proofs::Pieces::pieces))]
 fn put_places<S: Sink>(out: &mut S, place: u64, other: u64) -> Result<(), Failed>
-    ensures { Puts (S.held out.old) (S.held out.new) (S.write_faults out.old) (S.write_faults out.new) result ((codes " place=" ++ decimal place) ++ (codes " other=" ++ decimal other ++ codes "\n")) }
+    ensures { PutsTo S.Endpoint out.old out.new result (places_text place other) }
 {
     match put_labelled(out, b" place=", place) {
         Ok(()) => put_number(out, b" other=", other),
@@ -88,7 +89,7 @@ fn put_places<S: Sink>(out: &mut S, place: u64, other: u64) -> Result<(), Failed
 
 // Writes the line of guilt.
 fn put_guilty<S: Sink>(out: &mut S, guilt: Guilt) -> Result<(), Failed>
-    ensures { Puts (S.held out.old) (S.held out.new) (S.write_faults out.old) (S.write_faults out.new) result (line_of (guilty guilt)) }
+    ensures { PutsTo S.Endpoint out.old out.new result (line_of (guilty guilt)) }
 {
     match guilt {
         Guilt::OfKind(kind) => put_number(out, b"guilty K", u64::from(kind)),
@@ -104,7 +105,7 @@ fn put_guilty<S: Sink>(out: &mut S, guilt: Guilt) -> Result<(), Failed>
 
 // Writes the line of what isn't given.
 fn put_not_given<S: Sink>(out: &mut S, what: What) -> Result<(), Failed>
-    ensures { Puts (S.held out.old) (S.held out.new) (S.write_faults out.old) (S.write_faults out.new) result (line_of (not_given (what_view what))) }
+    ensures { PutsTo S.Endpoint out.old out.new result (line_of (not_given (what_view what))) }
 {
     let text: &'static [u8] = match what {
         What::Log(block) => return put_number(out, b"not given log ", block),
@@ -120,7 +121,7 @@ fn put_not_given<S: Sink>(out: &mut S, what: What) -> Result<(), Failed>
 
 // Writes the line of a file that isn't there.
 fn put_missing<S: Sink>(out: &mut S, part: EpochPart, epoch: u64) -> Result<(), Failed>
-    ensures { Puts (S.held out.old) (S.held out.new) (S.write_faults out.old) (S.write_faults out.new) result (line_of (missing (epoch_file part epoch))) }
+    ensures { PutsTo S.Endpoint out.old out.new result (line_of (missing (epoch_file part epoch))) }
 {
     match part {
         EpochPart::Families => put_number(out, b"missing families-", epoch),
@@ -132,7 +133,7 @@ fn put_missing<S: Sink>(out: &mut S, part: EpochPart, epoch: u64) -> Result<(), 
 
 // Writes the line of an ending of `audit`.
 pub(crate) fn put_audit_ending<S: Sink>(out: &mut S, ending: &AuditEnding) -> Result<(), Failed>
-    ensures { Puts (S.held out.old) (S.held out.new) (S.write_faults out.old) (S.write_faults out.new) result (line_of (audit_ending_view ending.now)) }
+    ensures { PutsTo S.Endpoint out.old out.new result (line_of (audit_ending_view ending.now)) }
 {
     match ending {
         AuditEnding::Clean {

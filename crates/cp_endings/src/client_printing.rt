@@ -2,9 +2,9 @@
 ghost use Rattle.std.specs.Prelude.{◌≡◌, ◌+◌, ◌≤◌, ◌++◌, length, codes, decimal};
 ghost use Rattle.cp_statements.specs.View.{attestation_view};
 ghost use Rattle.cp_endings.specs.Endings.{line_of};
-ghost use Rattle.cp_endings.specs.ClientEndings.{accepted, field_name, refused};
-ghost use Rattle.cp_endings.specs.ClientView.{client_ending_view};
-ghost use Rattle.cp_endings.specs.Reports.{Puts};
+ghost use Rattle.cp_endings.specs.ClientEndings.{field_name, refused};
+ghost use Rattle.cp_endings.specs.ClientView.{accepted_line, client_ending_view};
+ghost use Rattle.cp_endings.specs.Reports.{PutsTo};
 
 use crate::client_ending::ClientEnding;
 use crate::printing::{ROOM, put_line, put_number};
@@ -44,7 +44,7 @@ fn put_numbers<S: Sink>(
     second: u64,
 ) -> Result<(), Failed>
     requires { length text.now ≤ 20 }
-    ensures { Puts (S.held out.old) (S.held out.new) (S.write_faults out.old) (S.write_faults out.new) result
+    ensures { PutsTo S.Endpoint out.old out.new result
         (label.now ++ (decimal first ++ text.now ++ decimal second) ++ codes "\n") }
 {
     let mut buffer = [0u8; ROOM];
@@ -68,7 +68,7 @@ fn field_name(field: Field) -> &'static [u8]
 
 // Writes the line of a refusal.
 fn put_refusal<S: Sink>(out: &mut S, refusal: ClientRefusal) -> Result<(), Failed>
-    ensures { Puts (S.held out.old) (S.held out.new) (S.write_faults out.old) (S.write_faults out.new) result (line_of (refused refusal)) }
+    ensures { PutsTo S.Endpoint out.old out.new result (line_of (refused refusal)) }
 {
     match refusal {
         ClientRefusal::Malformed { at } => put_number(out, b"malformed ", at),
@@ -81,7 +81,7 @@ fn put_refusal<S: Sink>(out: &mut S, refusal: ClientRefusal) -> Result<(), Faile
 
 // Writes the line of an answer that was accepted.
 fn put_accepted<S: Sink>(out: &mut S, attestation: &Attestation) -> Result<(), Failed>
-    ensures { Puts (S.held out.old) (S.held out.new) (S.write_faults out.old) (S.write_faults out.new) result (line_of (accepted (attestation_view attestation.now))) }
+    ensures { PutsTo S.Endpoint out.old out.new result (accepted_line attestation.now) }
 {
     let label: &'static [u8] = match attestation.kind {
         Kind::Put => b"accepted put position=",
@@ -98,7 +98,7 @@ fn put_accepted<S: Sink>(out: &mut S, attestation: &Attestation) -> Result<(), F
 
 // Writes the line of an ending.
 pub(crate) fn put_client_ending<S: Sink>(out: &mut S, ending: &ClientEnding) -> Result<(), Failed>
-    ensures { Puts (S.held out.old) (S.held out.new) (S.write_faults out.old) (S.write_faults out.new) result (line_of (client_ending_view ending.now)) }
+    ensures { PutsTo S.Endpoint out.old out.new result (line_of (client_ending_view ending.now)) }
 {
     match ending {
         ClientEnding::AskedPut { leaf } => put_number(out, b"asked leaf=", *leaf),

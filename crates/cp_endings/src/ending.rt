@@ -32,8 +32,8 @@ pub enum Ending<'a> {
     Client(ClientEnding),
     /// How `audit` ended: status 0, 1 or 3.
     Audited(AuditEnding),
-    /// `replay`: a line of the script doesn't read, the first with its first byte at `at`; `forgery`: an
-    /// envelope doesn't, or isn't by a leaf of the key, the first at `at`: status 3.
+    /// `replay`: a line of the script doesn't read, the first with its first byte at `at`;
+    /// `forgery`: an envelope doesn't, or isn't by a leaf of the key, the first at `at`: status 3.
     Malformed { at: u64 },
     /// `replay`: the files were written; the printed lines, each with its end: status 0.
     Replayed(Bytes),

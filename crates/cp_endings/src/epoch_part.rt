@@ -32,8 +32,8 @@ impl EpochPart {
         }
     }
 
-    /// The name of the file of this part of the epoch's material, as `closing-7`; an error at want of
-    /// memory alone.
+    /// The name of the file of this part of the epoch's material, as `closing-7`; an error at want
+    /// of memory alone.
     pub fn name(&self, alloc: Global, epoch: u64) -> Result<String, AllocError>
         ensures { IfOk result (λ name. string_bytes name ≡ epoch_file self.now epoch) }
     {

@@ -14,8 +14,8 @@ pub enum Guilt {
     WentBack {
         block: u64,
     },
-    /// Kind 7: the block's segment breaks this rule at a place, and beside another where the rule is of
-    /// two.
+    /// Kind 7: the block's segment breaks this rule at a place, and beside another where the rule
+    /// is of two.
     BrokeRule {
         block: u64,
         rule: u8,

@@ -4,7 +4,8 @@ ghost use Rattle.std.specs.Prelude.{◌≡◌};
 /// How `certify`, `judge-life` or `forgery` ends, where it ends in a way of its own.
 #[derive(Clone, Copy, Debug, PartialEq, Eq)]
 pub enum MoreEnding {
-    /// `certify`: the operator's key, the certificate of this life and its seed were written: status 0.
+    /// `certify`: the operator's key, the certificate of this life and its seed were written:
+    /// status 0.
     Certified {
         life: u32,
     },
@@ -12,8 +13,8 @@ pub enum MoreEnding {
     BadCertificate,
     /// `forgery`: two different texts have one digest: status 0.
     Twins,
-    /// `forgery`: the signature of the leaf `leaf` has a value of chain `chain` before step `step`, and the
-    /// first that the key showed stands before the later step `revealed`: status 0.
+    /// `forgery`: the signature of the leaf `leaf` has a value of chain `chain` before step `step`,
+    /// and the first that the key showed stands before the later step `revealed`: status 0.
     Low {
         leaf: u32,
         chain: u16,

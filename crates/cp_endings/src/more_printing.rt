@@ -3,7 +3,7 @@ ghost use Rattle.std.specs.Prelude.{◌≡◌, ◌+◌, ◌≤◌, ◌++◌, len
 ghost use Rattle.cp_endings.specs.Endings.{line_of};
 ghost use Rattle.cp_endings.specs.MoreEndings.{low};
 ghost use Rattle.cp_endings.specs.MoreView.{more_ending_view};
-ghost use Rattle.cp_endings.specs.Reports.{Puts};
+ghost use Rattle.cp_endings.specs.Reports.{PutsTo};
 
 use crate::client_printing::numbers_beside;
 use crate::more_ending::MoreEnding;
@@ -12,7 +12,7 @@ use cp_outside::{Failed, Sink};
 
 // Writes a label and a leaf and a chain behind it.
 fn put_place<S: Sink>(out: &mut S, leaf: u32, chain: u16) -> Result<(), Failed>
-    ensures { Puts (S.held out.old) (S.held out.new) (S.write_faults out.old) (S.write_faults out.new) result
+    ensures { PutsTo S.Endpoint out.old out.new result
         (codes "low leaf=" ++ (decimal leaf ++ codes " chain=" ++ decimal chain)) }
 {
     let mut buffer = [0u8; ROOM];
@@ -25,7 +25,7 @@ fn put_place<S: Sink>(out: &mut S, leaf: u32, chain: u16) -> Result<(), Failed>
 
 // Writes the rest of the line: a step and the revealed one.
 fn put_steps<S: Sink>(out: &mut S, step: u8, revealed: u8) -> Result<(), Failed>
-    ensures { Puts (S.held out.old) (S.held out.new) (S.write_faults out.old) (S.write_faults out.new) result
+    ensures { PutsTo S.Endpoint out.old out.new result
         (codes " step=" ++ (decimal step ++ codes " revealed=" ++ decimal revealed) ++ codes "\n") }
 {
     let mut buffer = [0u8; ROOM];
@@ -49,7 +49,7 @@ fn put_low<S: Sink>(
     step: u8,
     revealed: u8,
 ) -> Result<(), Failed>
-    ensures { Puts (S.held out.old) (S.held out.new) (S.write_faults out.old) (S.write_faults out.new) result (line_of (low leaf chain step revealed)) }
+    ensures { PutsTo S.Endpoint out.old out.new result (line_of (low leaf chain step revealed)) }
 {
     match put_place(out, leaf, chain) {
         Ok(()) => put_steps(out, step, revealed),
@@ -59,7 +59,7 @@ fn put_low<S: Sink>(
 
 // Writes the line of an ending.
 pub(crate) fn put_more_ending<S: Sink>(out: &mut S, ending: &MoreEnding) -> Result<(), Failed>
-    ensures { Puts (S.held out.old) (S.held out.new) (S.write_faults out.old) (S.write_faults out.new) result (line_of (more_ending_view ending.now)) }
+    ensures { PutsTo S.Endpoint out.old out.new result (line_of (more_ending_view ending.now)) }
 {
     match *ending {
         MoreEnding::Certified { life } => put_number(out, b"certified life=", u64::from(life)),

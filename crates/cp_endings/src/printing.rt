@@ -1,8 +1,8 @@
 //! Printing how a command ended.
 ghost use Rattle.std.specs.Prelude.{◌≡◌, ◌+◌, ◌≤◌, ◌++◌, length, codes, decimal};
 ghost use Rattle.hex.specs.Hex.{encode_lower};
-ghost use Rattle.cp_endings.specs.Endings.{line_of, judged};
-ghost use Rattle.cp_endings.specs.Reports.{Puts, Reports};
+ghost use Rattle.cp_endings.specs.Endings.{key_line, line_of, judged};
+ghost use Rattle.cp_endings.specs.Reports.{PutsTo, ReportsTo};
 ghost use Rattle.cp_endings.specs.View.{ending_view};
 
 use crate::audit_printing::put_audit_ending;
@@ -44,7 +44,7 @@ fn two_numbers(buffer: &mut [u8; ROOM], first: u8, second: u8) -> &[u8]
 
 // Writes all of a piece.
 pub(crate) fn put_piece<S: Sink>(out: &mut S, piece: &[u8]) -> Result<(), Failed>
-    ensures { Puts (S.held out.old) (S.held out.new) (S.write_faults out.old) (S.write_faults out.new) result piece.now }
+    ensures { PutsTo S.Endpoint out.old out.new result piece.now }
 {
     put_all(out, piece)
 }
@@ -52,7 +52,7 @@ pub(crate) fn put_piece<S: Sink>(out: &mut S, piece: &[u8]) -> Result<(), Failed
 // Writes two pieces, one after the other.
 #[tactic(auto, using(crate::proofs::Pieces::pieces))]
 pub(crate) fn put_both<S: Sink>(out: &mut S, first: &[u8], second: &[u8]) -> Result<(), Failed>
-    ensures { Puts (S.held out.old) (S.held out.new) (S.write_faults out.old) (S.write_faults out.new) result (first.now ++ second.now) }
+    ensures { PutsTo S.Endpoint out.old out.new result (first.now ++ second.now) }
 {
     match put_piece(out, first) {
         Ok(()) => put_piece(out, second),
@@ -63,7 +63,7 @@ pub(crate) fn put_both<S: Sink>(out: &mut S, first: &[u8], second: &[u8]) -> Res
 // Writes a text of two pieces and the end of its line.
 #[tactic(auto, using(crate::proofs::Pieces::pieces))]
 pub(crate) fn put_line<S: Sink>(out: &mut S, front: &[u8], back: &[u8]) -> Result<(), Failed>
-    ensures { Puts (S.held out.old) (S.held out.new) (S.write_faults out.old) (S.write_faults out.new) result (front.now ++ back.now ++ codes "\n") }
+    ensures { PutsTo S.Endpoint out.old out.new result (front.now ++ back.now ++ codes "\n") }
 {
     match put_both(out, front, back) {
         Ok(()) => put_piece(out, b"\n"),
@@ -73,7 +73,7 @@ pub(crate) fn put_line<S: Sink>(out: &mut S, front: &[u8], back: &[u8]) -> Resul
 
 // Writes the line of a label and a number.
 pub(crate) fn put_number<S: Sink>(out: &mut S, label: &[u8], number: u64) -> Result<(), Failed>
-    ensures { Puts (S.held out.old) (S.held out.new) (S.write_faults out.old) (S.write_faults out.new) result (label.now ++ decimal number ++ codes "\n") }
+    ensures { PutsTo S.Endpoint out.old out.new result (label.now ++ decimal number ++ codes "\n") }
 {
     let mut buffer = [0u8; ROOM];
     put_line(out, label, digits(&mut buffer, number))
@@ -81,7 +81,7 @@ pub(crate) fn put_number<S: Sink>(out: &mut S, label: &[u8], number: u64) -> Res
 
 // Writes the line of a condition that fails.
 fn put_condition<S: Sink>(out: &mut S, kind: u8, condition: u8) -> Result<(), Failed>
-    ensures { Puts (S.held out.old) (S.held out.new) (S.write_faults out.old) (S.write_faults out.new) result
+    ensures { PutsTo S.Endpoint out.old out.new result
         (codes "not evidence K" ++ (decimal kind ++ codes " " ++ decimal condition) ++ codes "\n") }
 {
     let mut buffer = [0u8; ROOM];
@@ -94,7 +94,7 @@ fn put_condition<S: Sink>(out: &mut S, kind: u8, condition: u8) -> Result<(), Fa
 
 // Writes the line of a judgement.
 fn put_judgement<S: Sink>(out: &mut S, judgement: Judgement) -> Result<(), Failed>
-    ensures { Puts (S.held out.old) (S.held out.new) (S.write_faults out.old) (S.write_faults out.new) result (line_of (judged judgement)) }
+    ensures { PutsTo S.Endpoint out.old out.new result (line_of (judged judgement)) }
 {
     match judgement {
         Judgement::BadKey => put_line(out, b"bad key", b""),
@@ -106,7 +106,7 @@ fn put_judgement<S: Sink>(out: &mut S, judgement: Judgement) -> Result<(), Faile
 
 // Writes the line of a key: its digits in lower-case hexadecimal.
 fn put_key<S: Sink>(out: &mut S, key: &[u8; 56]) -> Result<(), Failed>
-    ensures { Puts (S.held out.old) (S.held out.new) (S.write_faults out.old) (S.write_faults out.new) result (codes "key " ++ encode_lower key.now ++ codes "\n") }
+    ensures { PutsTo S.Endpoint out.old out.new result (key_line key.now) }
 {
     let mut buffer = [0u8; ROOM];
     let _fits = hex::encode_to_slice(key.as_slice(), &mut buffer);
@@ -115,7 +115,7 @@ fn put_key<S: Sink>(out: &mut S, key: &[u8; 56]) -> Result<(), Failed>
 
 // Writes the line of an ending.
 fn put_ending<S: Sink>(out: &mut S, ending: &Ending) -> Result<(), Failed>
-    ensures { Puts (S.held out.old) (S.held out.new) (S.write_faults out.old) (S.write_faults out.new) result (line_of (ending_view ending.now)) }
+    ensures { PutsTo S.Endpoint out.old out.new result (line_of (ending_view ending.now)) }
 {
     let text: &'static [u8] = match ending {
         Ending::Missing { name } => return put_line(out, b"missing ", name.as_bytes()),
@@ -138,10 +138,10 @@ fn put_ending<S: Sink>(out: &mut S, ending: &Ending) -> Result<(), Failed>
     put_line(out, text, b"")
 }
 
-/// Prints the ending's lines, each with its end, and answers its status, or 4 where they can't all be
-/// written: then a beginning of them is. Want of memory stays want of memory, 5.
+/// Prints the ending's lines, each with its end, and answers its status, or 4 where they can't all
+/// be written: then a beginning of them is. Want of memory stays want of memory, 5.
 pub fn report<S: Sink>(out: &mut S, ending: &Ending) -> u8
-    ensures reports { Reports (S.held out.old) (S.held out.new) (S.write_faults out.old) (S.write_faults out.new) (ending_view ending.now) result }
+    ensures reports { ReportsTo S.Endpoint out.old out.new (ending_view ending.now) result }
     ensures count { S.write_faults out.old ≤ S.write_faults out.new }
 {
     match put_ending(out, ending) {

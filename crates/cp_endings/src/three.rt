@@ -1,6 +1,6 @@
 //! Reading three input files, one after another.
 ghost use Rattle.std.specs.Prelude.{◌≡◌, ℕ, List};
-ghost use Rattle.cp_endings.specs.ThreeInputs.{ReadsThree, input_view};
+ghost use Rattle.cp_endings.specs.ThreeInputs.{ReadsThreeOf};
 ghost use Rattle.cp_endings.specs.Folders.{files_of};
 
 use crate::ending::Ending;
@@ -28,8 +28,8 @@ pub struct ThreeFiles {
     pub third: Vec<u8>,
 }
 
-/// The bytes of three files, which are read in this order, or how the command ends at the first that is
-/// refused. No file changes.
+/// The bytes of three files, which are read in this order, or how the command ends at the first
+/// that is refused. No file changes.
 pub fn three_inputs<'a, F: Folder>(
     alloc: Global,
     files: &mut F,
@@ -37,7 +37,7 @@ pub fn three_inputs<'a, F: Folder>(
     second: Input<'a>,
     third: Input<'a>,
 ) -> Result<ThreeFiles, Ending<'a>>
-    ensures reads { ReadsThree (input_view first.entry) (input_view second.entry) (input_view third.entry)
+    ensures reads { ReadsThreeOf first.entry second.entry third.entry
         (files_of F.Folder files.old)
         (files_of F.Folder files.new) result }
     ensures tells { F.tells files.new ≡ F.tells files.old }

@@ -33,8 +33,8 @@ fn closing_before<'a>(
     }
 }
 
-// What stands before the closing, where the envelope fits: in epoch 1 both of its parts are empty, and
-// otherwise it is the closing of the epoch before and verifies.
+// What stands before the closing, where the envelope fits: in epoch 1 both of its parts are empty,
+// and otherwise it is the closing of the epoch before and verifies.
 pub(crate) fn before<'a>(store: &Store, closing: &Closing, y: &Envelope<'a>) -> Option<Before<'a>>
     ensures value { option_map before_closing result
         ≡ before_of store.now.key (closing_view closing.now) (envelope_view y.now) }

@@ -110,8 +110,8 @@ impl<'a> Framed<'a> {
     }
 }
 
-// Whether a block that stood so before went back. One without a row has count 0, and one with a row a
-// count above it.
+// Whether a block that stood so before went back. One without a row has count 0, and one with a row
+// a count above it.
 fn went_back(before: &Tip, after: &Tip) -> bool
     ensures { result ≡ went_back (tip_view before.now) (tip_view after.now) }
 {

@@ -19,10 +19,10 @@ pub enum LifeJudgement {
     Judged(Judgement),
 }
 
-/// What the bytes of `evidence` are against the life that `certificate` is for, under the operator's
-/// key of 60 bytes, from these bytes alone (RFC 8554, section 6, for the key and the certificate): the
-/// key reads, then the certificate is one under it, and then the evidence is judged under the life's
-/// key. It takes no memory.
+/// What the bytes of `evidence` are against the life that `certificate` is for, under the
+/// operator's key of 60 bytes, from these bytes alone (RFC 8554, section 6, for the key and the
+/// certificate): the key reads, then the certificate is one under it, and then the evidence is
+/// judged under the life's key. It takes no memory.
 #[tactic(auto, using(crate::proofs::LifeGuilt::lives))]
 pub fn judge_life(key: &[u8], certificate: &[u8], evidence: &[u8]) -> LifeJudgement
     ensures judged { result ≡ life_judgement_of key.now certificate.now evidence.now }

@@ -18,7 +18,7 @@ use Rattle.lms_tree.specs.Secret.{leaves_of}
 use Rattle.lms_forge.specs.Pairs as forge
 use Rattle.lms_forge.specs.Pairs.{text_at}
 use Rattle.cp_more.specs.Pairs.{clash, first_of, is_other, pair_at, pair_in, pairs_at, pairs_of, used_by, with_leaf}
-use Rattle.cp_more.specs.Listing.{Keeps, Lists}
+use Rattle.cp_more.specs.Listing.{KeepsPair, Lists}
 use Rattle.cp_more.specs.declared.list.ListRefusal.TheVariants.{LeafUsed}
 
 -- ---- the list so far
@@ -165,7 +165,7 @@ pair_within leaves rest x e =
         subst (λ (p : ℕ × List ℕ). p.0 < leaves) g.1 (ltb-true leaf leaves g.0)
 
 pub step : (leaves : ℕ) (bytes rest rest₂ : List ℕ) (start now now₂ : forge.Pairs) (used used₂ : Option ℕ) (p : ℕ × List ℕ) → SoFar leaves bytes rest start now used → (rest ≡ [] → ⊥)
-    → pair_at leaves rest ≡ Ok (p, rest₂) → Keeps now now₂ p used used₂ → SoFar leaves bytes rest₂ start now₂ used₂
+    → pair_at leaves rest ≡ Ok (p, rest₂) → KeepsPair now now₂ p used used₂ → SoFar leaves bytes rest₂ start now₂ used₂
 step leaves bytes rest rest₂ start now now₂ used used₂ p so some e keeps = go so.left so.enough so.so_far
   where
     shorter : length rest₂ < length rest
@@ -177,7 +177,7 @@ step leaves bytes rest rest₂ start now now₂ used used₂ p so some e keeps =
     same_used : used ≡ None → used_by now.texts p ≡ used_by so.front p
     same_used none = ap (λ (o : Option (List ℕ)). cond (is_other o p.1) (Some p.0) None) (so.texts none p.0)
 
-    kept : (u u₂ : Option ℕ) → used ≡ u → Keeps now now₂ p u u₂
+    kept : (u u₂ : Option ℕ) → used ≡ u → KeepsPair now now₂ p u u₂
         → (u₂ ≡ clash [] (so.front ++ p ∷ [])) × (now₂.key ≡ start.key) × (u₂ ≡ None → (q : ℕ) → text_at now₂.texts q ≡ text_at (so.front ++ p ∷ []) q)
     kept (Some leaf) u₂ is k = (
       k.0 ∙ ap (λ (u : Option ℕ). first_of u (used_by so.front p)) (sym is) ∙ sym pushed,

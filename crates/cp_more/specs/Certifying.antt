@@ -1,5 +1,5 @@
 -- How the command `certify` ends, over the files of its folder (this project's own).
-use Rattle.std.specs.Prelude.{ℕ, ◌≡◌, ◌⊎◌, List, [], ◌∷◌, length, take, drop, Option, Result, Ok, Err, nat_lt, if◌then◌else◌}
+use Rattle.std.specs.Prelude.{ℕ, ◌≡◌, ◌≢◌, ◌⊎◌, List, [], ◌∷◌, length, take, drop, Option, Result, Ok, Err, nat_lt, if◌then◌else◌}
 use Rattle.cp_bytes.specs.Fields.{◌>>=◌}
 use Rattle.cp_outside.specs.Causes.{Rose}
 use Rattle.lms_hss.specs.Lives.{HssSecret, hss_public, certificate, life_seed_file}
@@ -50,6 +50,10 @@ LifeEnds words (Err refusal) old new ending = (ending ≡ refusal) × KeepsAll o
 -- the name of a file that `certify` writes
 abbrev pub IsLifeFile : CertifyWords → List ℕ → Type 0
 IsLifeFile words name = (name ≡ words.key) ⊎ (name ≡ words.certificate) ⊎ (name ≡ words.out)
+
+-- no other file changed
+abbrev pub KeepsButLife : CertifyWords → Files → Files → Type 0
+KeepsButLife words old new = (name : List ℕ) → name ≢ words.key → name ≢ words.certificate → name ≢ words.out → new.file name ≡ old.file name
 
 -- Where the command stops before its writes, for want of memory or at a fault of a read, all files stay.
 pub record CertifyEnds (words : CertifyWords) (old new : Files) (ending : Outcome) : Type 0 where

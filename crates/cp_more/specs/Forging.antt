@@ -9,7 +9,7 @@ use Rattle.lms_forge.specs.Witness.{witness_of}
 use Rattle.lms_forge.specs.declared.witness.Witness.{Witness}
 use Rattle.lms_forge.specs.declared.witness.Witness.TheVariants.{Twins, Low}
 use Rattle.cp_commands.specs.MoreWords.{ForgeryWords}
-use Rattle.cp_endings.specs.Endings.{Outcome, malformed, short_seed}
+use Rattle.cp_endings.specs.Endings.{Outcome, malformed, no_memory, short_seed}
 use Rattle.cp_endings.specs.Folders.{Files, input_of, ending_of, Stops, KeepsAll, IsFile, ReadsFirst}
 use Rattle.cp_endings.specs.MoreEndings.{leaf_used, low, not_forged_invalid, not_forged_known, twins}
 use Rattle.cp_endings.specs.ThreeInputs.{Three, three_of}
@@ -44,6 +44,10 @@ of_read key (Err at) text sig = malformed at
 -- of a list, a text and a signature: the list must read, and give no leaf two texts
 abbrev pub of_list : Secret → Three → Outcome
 of_list key files = of_read key (pairs_of (leaves_of key) files.first) files.second files.third
+
+-- so the command ends, or memory was wanted
+abbrev pub EndsAs : Outcome → Outcome → Type 0
+EndsAs ending wanted = (ending ≡ wanted) ⊎ (ending ≡ no_memory)
 
 abbrev pub forgery_in : ForgeryWords → List ℕ → Three → Outcome
 forgery_in words seed files = if nat_lt (length seed) 48 then short_seed else of_list (secret_in words.height words.ots seed) files

@@ -1,5 +1,5 @@
 -- What adding a list gives.
-use Rattle.std.specs.Prelude.{ℕ, ◌≡◌, [], List, Option, Some, None, Result, Ok, Err, cond}
+use Rattle.std.specs.Prelude.{ℕ, ◌≡◌, [], List, Option, Some, None, Result, Ok, Err, IfOk, cond}
 use Rattle.std.specs.Ordering.{nat_cmp}
 use Rattle.std.specs.BTreeMap.{is_at}
 use Rattle.lms_tree.specs.Secret.{leaves_of}
@@ -14,10 +14,14 @@ abbrev pub Added : forge.Pairs → forge.Pairs → ℕ × List ℕ → Type 0
 Added old new pair = (new.key ≡ old.key) × ((q : ℕ) → text_at new.texts q ≡ cond (is_at (nat_cmp pair.0) q) (Some pair.1) (text_at old.texts q))
 
 -- one more pair, after those that gave this leaf two texts, if they did
-abbrev pub Keeps : forge.Pairs → forge.Pairs → ℕ × List ℕ → Option ℕ → Option ℕ → Type 0
-Keeps old new pair (Some leaf) used = (used ≡ Some leaf) × (new ≡ old)
-Keeps old new pair None None = (used_by old.texts pair ≡ None) × Added old new pair
-Keeps old new pair None (Some leaf) = (used_by old.texts pair ≡ Some leaf) × (new ≡ old)
+abbrev pub KeepsPair : forge.Pairs → forge.Pairs → ℕ × List ℕ → Option ℕ → Option ℕ → Type 0
+KeepsPair old new pair (Some leaf) used = (used ≡ Some leaf) × (new ≡ old)
+KeepsPair old new pair None None = (used_by old.texts pair ≡ None) × Added old new pair
+KeepsPair old new pair None (Some leaf) = (used_by old.texts pair ≡ Some leaf) × (new ≡ old)
+
+-- the same of an answer; want of memory says nothing
+abbrev pub AddsPair : {E : Type 0} → forge.Pairs → forge.Pairs → ℕ × List ℕ → Option ℕ → Result (Option ℕ) E → Type 0
+AddsPair old new pair used result = IfOk result (λ found. KeepsPair old new pair used found)
 
 -- the key's list holds the texts of these pairs
 pub record HoldsPairs (key : forge.Pairs) (now : forge.Pairs) (pairs : List (ℕ × List ℕ)) : Type 0 where

@@ -3,7 +3,7 @@ ghost use Rattle.std.specs.Prelude.{◌≡◌, ◌≤◌, map, string_bytes};
 ghost use Rattle.cp_commands.specs.Commands.{command_of};
 ghost use Rattle.cp_endings.specs.Endings.{Outcome};
 ghost use Rattle.cp_endings.specs.Folders.{files_of};
-ghost use Rattle.cp_endings.specs.Reports.{Reports};
+ghost use Rattle.cp_endings.specs.Reports.{ReportsTo};
 ghost use Rattle.cp_endings.specs.View.{ending_view};
 ghost use Rattle.cp_more.specs.Calls.{CertifyCall, ForgeryCall, JudgeLifeCall};
 
@@ -68,9 +68,9 @@ fn forged<'a, R: Threads + Sync, F: Folder>(
     }
 }
 
-/// The command `certify`: does what the words say, of which `certify` is the first, prints its line to
-/// `out`, and answers its status: 0 written, 2 other words, 3 a refused input, 4 a fault of the folder or
-/// the sink, 5 want of memory.
+/// The command `certify`: does what the words say, of which `certify` is the first, prints its line
+/// to `out`, and answers its status: 0 written, 2 other words, 3 a refused input, 4 a fault of the
+/// folder or the sink, 5 want of memory.
 pub fn certify<R: Threads + Sync, F: Folder, S: Sink>(
     rt: &R,
     alloc: Global,
@@ -80,7 +80,7 @@ pub fn certify<R: Threads + Sync, F: Folder, S: Sink>(
 ) -> u8
     ensures ends { (ending : Outcome) × CertifyCall (command_of (map string_bytes words.now))
         (files_of F.Folder files.old) (files_of F.Folder files.new) ending
-        × Reports (S.held out.old) (S.held out.new) (S.write_faults out.old) (S.write_faults out.new) ending result }
+        × ReportsTo S.Endpoint out.old out.new ending result }
     ensures tells { F.tells files.new ≡ F.tells files.old }
     ensures sink_count { S.write_faults out.old ≤ S.write_faults out.new }
 {
@@ -88,9 +88,9 @@ pub fn certify<R: Threads + Sync, F: Folder, S: Sink>(
     report(out, &ending)
 }
 
-/// The command `judge-life`: does what the words say, of which `judge-life` is the first, prints its line
-/// to `out`, and answers its status: 0 guilty, 1 not, 2 other words, 3 a refused input, a bad key or a bad
-/// certificate, 4 a fault of the folder or the sink, 5 want of memory.
+/// The command `judge-life`: does what the words say, of which `judge-life` is the first, prints
+/// its line to `out`, and answers its status: 0 guilty, 1 not, 2 other words, 3 a refused input, a
+/// bad key or a bad certificate, 4 a fault of the folder or the sink, 5 want of memory.
 pub fn judge_life<R: Threads + Sync, F: Folder, S: Sink>(
     _rt: &R,
     alloc: Global,
@@ -100,7 +100,7 @@ pub fn judge_life<R: Threads + Sync, F: Folder, S: Sink>(
 ) -> u8
     ensures ends { (ending : Outcome) × JudgeLifeCall (command_of (map string_bytes words.now))
         (files_of F.Folder files.old) (files_of F.Folder files.new) ending
-        × Reports (S.held out.old) (S.held out.new) (S.write_faults out.old) (S.write_faults out.new) ending result }
+        × ReportsTo S.Endpoint out.old out.new ending result }
     ensures tells { F.tells files.new ≡ F.tells files.old }
     ensures sink_count { S.write_faults out.old ≤ S.write_faults out.new }
 {
@@ -108,9 +108,9 @@ pub fn judge_life<R: Threads + Sync, F: Folder, S: Sink>(
     report(out, &ending)
 }
 
-/// The command `forgery`: does what the words say, of which `forgery` is the first, prints its line to
-/// `out`, and answers its status: 0 a witness, 1 none, 2 other words, 3 a refused input or list, 4 a fault
-/// of the folder or the sink, 5 want of memory.
+/// The command `forgery`: does what the words say, of which `forgery` is the first, prints its line
+/// to `out`, and answers its status: 0 a witness, 1 none, 2 other words, 3 a refused input or list,
+/// 4 a fault of the folder or the sink, 5 want of memory.
 pub fn forgery<R: Threads + Sync, F: Folder, S: Sink>(
     rt: &R,
     alloc: Global,
@@ -120,7 +120,7 @@ pub fn forgery<R: Threads + Sync, F: Folder, S: Sink>(
 ) -> u8
     ensures ends { (ending : Outcome) × ForgeryCall (command_of (map string_bytes words.now))
         (files_of F.Folder files.old) (files_of F.Folder files.new) ending
-        × Reports (S.held out.old) (S.held out.new) (S.write_faults out.old) (S.write_faults out.new) ending result }
+        × ReportsTo S.Endpoint out.old out.new ending result }
     ensures tells { F.tells files.new ≡ F.tells files.old }
     ensures sink_count { S.write_faults out.old ≤ S.write_faults out.new }
 {

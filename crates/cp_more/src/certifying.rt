@@ -3,7 +3,7 @@ ghost use Rattle.std.specs.Prelude.{◌≡◌, ◌≢◌, ◌≤◌, ℕ, List, 
 ghost use Rattle.cp_commands.specs.View.{certify_words_view};
 ghost use Rattle.cp_endings.specs.Folders.{files_of};
 ghost use Rattle.cp_endings.specs.View.{ending_view};
-ghost use Rattle.cp_more.specs.Certifying.{CertifyEnds, WritesLife};
+ghost use Rattle.cp_more.specs.Certifying.{CertifyEnds, KeepsButLife, WritesLife};
 ghost use Rattle.cp_more.specs.CertifyingCode.{MakesLife, made_view};
 
 use crate::seeds::{SEED_LENGTH, part, workers};
@@ -63,8 +63,9 @@ fn write_life<'a, F: Folder>(files: &mut F, words: &CertifyWords<'_>, made: &Mad
     ensures ends { WritesLife (certify_words_view words.now) (made_view made.now)
         (files_of F.Folder files.old)
         (files_of F.Folder files.new) (ending_view result) }
-    ensures others { (name : List ℕ) → name ≢ words.now.key.now → name ≢ words.now.certificate.now → name ≢ words.now.out.now
-        → F.file files.new name ≡ F.file files.old name }
+    ensures others { KeepsButLife (certify_words_view words.now)
+        (files_of F.Folder files.old)
+        (files_of F.Folder files.new) }
     ensures tells { F.tells files.new ≡ F.tells files.old }
     ensures unread { F.read_faults files.new ≡ F.read_faults files.old }
     ensures write_count { F.write_faults files.old ≤ F.write_faults files.new }
@@ -83,9 +84,9 @@ fn write_life<'a, F: Folder>(files: &mut F, words: &CertifyWords<'_>, made: &Mad
     }
 }
 
-/// Does what the words of `certify` say, up to the printed line: writes the operator's key, the life's
-/// certificate and the life's seed. The trees of the operator and of the life are made by all processors.
-/// The operator's seed is written nowhere.
+/// Does what the words of `certify` say, up to the printed line: writes the operator's key, the
+/// life's certificate and the life's seed. The trees of the operator and of the life are made by
+/// all processors. The operator's seed is written nowhere.
 pub fn run_certify<'a, R: Threads + Sync, F: Folder>(
     rt: &R,
     alloc: Global,

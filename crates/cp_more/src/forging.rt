@@ -5,26 +5,22 @@ ghost use Rattle.cp_endings.specs.Endings.{no_memory};
 ghost use Rattle.cp_endings.specs.Folders.{files_of};
 ghost use Rattle.cp_endings.specs.ThreeInputs.{three_view};
 ghost use Rattle.cp_endings.specs.View.{ending_view};
-ghost use Rattle.cp_more.specs.Forging.{ForgeryEnds, forgery_in, of_list, witnessed};
+ghost use Rattle.cp_more.specs.Forging.{EndsAs, ForgeryEnds, forgery_in, of_list, witnessed};
 
 use crate::list::{ListRefusal, add_all};
 use crate::seeds::{SEED_LENGTH, part, workers};
 use cp_commands::ForgeryWords;
-use cp_endings::{Ending, Input, MoreEnding, ThreeFiles, input, three_inputs};
+use cp_endings::{
+    Ending, Input, MoreEnding, SIGNATURE_LIMIT, SIGNED_TEXT_LIMIT, ThreeFiles, input, three_inputs,
+};
 use cp_outside::Folder;
 use lms_forge::{ForgeryRefusal, Signed, Witness};
 use lms_tree::PrivateKey;
 use std::alloc::Global;
 use std::thread::Threads;
 
-/// The most bytes of a list of envelopes: 64 MiB.
+// The most bytes of a list of envelopes: 64 MiB.
 const SIGNED_LIMIT: u64 = 67_108_864;
-
-/// The most bytes of a text: 1 MiB.
-const TEXT_LIMIT: u64 = 1_048_576;
-
-/// The most bytes of a signature: 16 KiB.
-const SIGNATURE_LIMIT: u64 = 16_384;
 
 // What is printed of a witness.
 fn witnessed<'a>(witness: Witness) -> Ending<'a>
@@ -49,7 +45,7 @@ fn witnessed<'a>(witness: Witness) -> Ending<'a>
 
 // What the signature of the text is beside what the key signed.
 fn found<'a>(alloc: Global, key: &PrivateKey, files: &ThreeFiles) -> Ending<'a>
-    ensures { (ending_view result ≡ of_list key.now (three_view files.now)) ⊎ (ending_view result ≡ no_memory) }
+    ensures { EndsAs (ending_view result) (of_list key.now (three_view files.now)) }
 {
     let mut signed = Signed::new(alloc, key);
     match add_all(alloc, &mut signed, key.leaves(), files.first.as_slice()) {
@@ -75,7 +71,8 @@ fn forged<'a, R: Threads + Sync>(
     files: &ThreeFiles,
 ) -> Ending<'a>
     requires { length seed.now ≤ 48 }
-    ensures { (ending_view result ≡ forgery_in (forgery_words_view words.now) seed.now (three_view files.now)) ⊎ (ending_view result ≡ no_memory) }
+    ensures { EndsAs (ending_view result)
+        (forgery_in (forgery_words_view words.now) seed.now (three_view files.now)) }
 {
     if seed.len() < SEED_LENGTH as usize {
         return Ending::ShortSeed;
@@ -94,9 +91,9 @@ fn forged<'a, R: Threads + Sync>(
     }
 }
 
-/// Does what the words of `forgery` say, up to the printed line: what must have failed where the signature
-/// of the text verifies under the key of the seed and isn't one of those that the key made. No file is
-/// written.
+/// Does what the words of `forgery` say, up to the printed line: what must have failed where the
+/// signature of the text verifies under the key of the seed and isn't one of those that the key
+/// made. No file is written.
 pub fn run_forgery<'a, R: Threads + Sync, F: Folder>(
     rt: &R,
     alloc: Global,
@@ -120,7 +117,7 @@ pub fn run_forgery<'a, R: Threads + Sync, F: Folder>(
     };
     let text = Input {
         name: words.text,
-        limit: TEXT_LIMIT,
+        limit: SIGNED_TEXT_LIMIT,
     };
     let signature = Input {
         name: words.signature,

@@ -1,5 +1,5 @@
-//! The commands on an operator's lives and on forgeries, over any folder and sink: `certify`, `judge-life`
-//! and `forgery`.
+//! The commands on an operator's lives and on forgeries, over any folder and sink: `certify`,
+//! `judge-life` and `forgery`.
 #![tactic(auto)]
 
 mod calls;

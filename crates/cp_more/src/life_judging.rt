@@ -5,19 +5,16 @@ ghost use Rattle.cp_endings.specs.ThreeInputs.{three_view};
 ghost use Rattle.cp_endings.specs.View.{ending_view};
 ghost use Rattle.cp_more.specs.LifeJudging.{JudgeLifeEnds, life_judged_of};
 
-use cp_endings::{Ending, Input, MoreEnding, ThreeFiles, three_inputs};
+use cp_endings::{EVIDENCE_LIMIT, Ending, Input, MoreEnding, ThreeFiles, three_inputs};
 use cp_judge::{LifeJudgement, judge_life};
 use cp_outside::Folder;
 use std::alloc::Global;
 
-/// The most bytes of an operator's key file.
+// The most bytes of an operator's key file.
 const HSS_KEY_LIMIT: u64 = 60;
 
-/// The most bytes of a certificate file: 16 KiB.
+// The most bytes of a certificate file: 16 KiB.
 const CERTIFICATE_LIMIT: u64 = 16_384;
-
-/// The most bytes of an evidence file: 512 MiB.
-const EVIDENCE_LIMIT: u64 = 536_870_912;
 
 // What the evidence is against the life that the certificate is for.
 fn judged<'a>(files: &ThreeFiles) -> Ending<'a>
@@ -35,8 +32,8 @@ fn judged<'a>(files: &ThreeFiles) -> Ending<'a>
     }
 }
 
-/// Does what the words of `judge-life` say, up to the printed line: whether the evidence convicts the life
-/// that the certificate is for, under the operator's key. No file is written.
+/// Does what the words of `judge-life` say, up to the printed line: whether the evidence convicts
+/// the life that the certificate is for, under the operator's key. No file is written.
 pub fn run_judge_life<'a, F: Folder>(
     alloc: Global,
     files: &mut F,

@@ -2,7 +2,7 @@
 ghost use Rattle.std.specs.Prelude.{◌≡◌, ◌<◌, [], IfOk, Some, None};
 ghost use Rattle.lms_tree.specs.Secret.{leaves_of};
 ghost use Rattle.cp_more.specs.PairView.{pair_view};
-ghost use Rattle.cp_more.specs.Listing.{Keeps, Lists};
+ghost use Rattle.cp_more.specs.Listing.{AddsPair, Lists};
 
 use crate::signed_pair::{SignedPair, take_pair};
 use cp_bytes::{Cut, OutOfMemory};
@@ -20,7 +20,8 @@ pub(crate) enum ListRefusal {
     OutOfMemory,
 }
 
-// Adds a pair, unless a leaf was found to have two texts; that leaf, or the pair's where it is the first.
+// Adds a pair, unless a leaf was found to have two texts; that leaf, or the pair's where it is the
+// first.
 fn keep(
     alloc: Global,
     signed: &mut Signed<'_>,
@@ -28,7 +29,7 @@ fn keep(
     used: Option<u32>,
 ) -> Result<Option<u32>, OutOfMemory>
     requires { pair.leaf < leaves_of signed.old.key }
-    ensures { IfOk result (λ found. Keeps signed.old signed.new (pair_view pair.entry) used found) }
+    ensures { AddsPair signed.old signed.new (pair_view pair.entry) used result }
 {
     if used.is_some() {
         return Ok(used);
@@ -40,8 +41,8 @@ fn keep(
     }
 }
 
-// Adds the pairs that the bytes are. The whole list is read, and then a leaf that it gives two texts is
-// refused.
+// Adds the pairs that the bytes are. The whole list is read, and then a leaf that it gives two
+// texts is refused.
 pub(crate) fn add_all(
     alloc: Global,
     signed: &mut Signed<'_>,

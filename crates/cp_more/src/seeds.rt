@@ -6,10 +6,10 @@ use std::thread::{Threads, available_parallelism};
 /// The bytes of a seed file: SEED of 32 bytes and I of 16.
 pub const SEED_LENGTH: u64 = 48;
 
-/// The most threads that make a key.
+// The most threads that make a key.
 const MOST_WORKERS: usize = 64;
 
-/// How many threads make a key where std doesn't tell how many processors there are.
+// How many threads make a key where std doesn't tell how many processors there are.
 const USUAL_WORKERS: usize = 4;
 
 /// As many threads as there are processors, and at most 64.

@@ -5,9 +5,11 @@ use crate::view::View;
 use atomic_table::Seat;
 use std::marker::Model;
 
-/// One who draws from a counter, or only looks at it. It takes no bytes, and may go to another thread.
+/// One who draws from a counter, or only looks at it. It takes no bytes, and may go to another
+/// thread.
 ///
-/// Contracts see its counter, the numbers that it has drawn, in order, and its found number: the counter as its last step found it.
+/// Contracts see its counter, the numbers that it has drawn, in order, and its found number: the
+/// counter as its last step found it.
 #[derive(Drop)]
 pub struct LeafSeat {
     pub(crate) seat: Seat<(), View>,
@@ -27,7 +29,8 @@ impl Model for LeafSeat {
 }
 
 impl LeafSeat {
-    /// A law: the numbers that a seat has drawn ascend strictly, and are below the counter as it was last found.
+    /// A law: the numbers that a seat has drawn ascend strictly, and are below the counter as it
+    /// was last found.
     pub fn ascends(&self)
         ensures { Ascends self.now.drawn self.now.found }
     {

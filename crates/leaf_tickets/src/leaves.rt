@@ -1,6 +1,6 @@
 //! The counter.
 ghost use Rattle.std.specs.Prelude.{◌≡◌, ℕ, ◌≤◌, ◌<◌, ◌++◌, ◌∷◌, [], ◌+◌, ◌^◌, length, sum_by, All, IfOk, IfErr, MatchResult, MatchBool};
-ghost use Rattle.leaf_tickets.specs.Models.{IsSeatOf, times, once_from};
+ghost use Rattle.leaf_tickets.specs.Models.{IsSeatOf, AreDealt, IsNextFor, IsOver, HaveDrawnOnce, having_drawn, times};
 
 use crate::OutOfMemory;
 use crate::leaf_seat::LeafSeat;
@@ -38,7 +38,7 @@ impl Leaves {
     pub fn new(alloc: Global, seats: u32) -> Result<(Leaves, Vec<LeafSeat>), OutOfMemory>
         requires { 0 < seats }
         ensures leaves { IfOk result (λ r. (r.0.start ≡ 0) × (r.0.seats ≡ seats)) }
-        ensures seats { IfOk result (λ r. (length r.1.items ≡ seats) × All (λ s. IsSeatOf r.0 s × (s.drawn ≡ []) × (s.found ≡ 0)) r.1.items) }
+        ensures seats { IfOk result (λ r. (length r.1.items ≡ seats) × AreDealt r.0 0 r.1.items) }
     {
         Leaves::resume(alloc, 0, seats)
     }
@@ -51,7 +51,8 @@ impl Leaves {
     ) -> Result<(Leaves, Vec<LeafSeat>), OutOfMemory>
         requires { 0 < seats }
         ensures leaves { IfOk result (λ r. (r.0.start ≡ start) × (r.0.seats ≡ seats)) }
-        ensures seats { IfOk result (λ r. (length r.1.items ≡ seats) × All (λ s. IsSeatOf r.0 s × (s.drawn ≡ []) × (s.found ≡ start)) r.1.items) }
+        ensures seats { IfOk result
+            (λ r. (length r.1.items ≡ seats) × AreDealt r.0 start r.1.items) }
     {
         let mut all = Vec::with_capacity(alloc, seats as usize)?;
         let about = About {
@@ -71,13 +72,14 @@ impl Leaves {
     ///
     /// # Errors
     ///
-    /// `LeavesOver` where the counter was found at the limit or above it. The seat's found number is then `drawn`.
+    /// `LeavesOver` where the counter was found at the limit or above it. The seat's found number
+    /// is then `drawn`.
     pub fn draw<R: Wait>(&self, rt: &R, seat: &mut LeafSeat, limit: u64) -> Result<u64, LeavesOver>
         requires { IsSeatOf self.now seat.old }
-        ensures number { IfOk result (λ n. (n < limit) × (seat.old.found ≤ n) × (times n seat.old.drawn ≡ 0)) }
-        ensures over { IfErr result (λ over. (over.limit ≡ limit) × (limit ≤ over.drawn) × (seat.old.found ≤ over.drawn)) }
+        ensures number { IfOk result (λ n. IsNextFor seat.old limit n) }
+        ensures over { IfErr result (λ over. IsOver seat.old limit over) }
         ensures seat { MatchResult result
-            (λ n. seat.new ≡ record seat.old { drawn = seat.old.drawn ++ n ∷ []; found = n + 1 })
+            (λ n. seat.new ≡ having_drawn seat.old n)
             (λ over. seat.new ≡ record seat.old { found = over.drawn }) }
     {
         for _ in rt.forever() {
@@ -101,7 +103,7 @@ impl Leaves {
         requires room { number + 1 < 2 ^ 64 }
         ensures found { seat.old.found ≤ seat.new.found }
         ensures drawn { MatchBool result
-            ((seat.new ≡ record seat.old { drawn = seat.old.drawn ++ number ∷ []; found = number + 1 }) × (times number seat.old.drawn ≡ 0))
+            ((seat.new ≡ having_drawn seat.old number) × (times number seat.old.drawn ≡ 0))
             (seat.new ≡ record seat.old { found = seat.new.found }) }
     {
         let shared = &self.table.shared;
@@ -117,10 +119,12 @@ impl Leaves {
         self.table.shared.load::<Look>(&mut seat.seat, 0)
     }
 
-    /// Closes the counter with all its seats, and answers the number at which it stands. Together the seats have drawn the numbers from the start on that are below it, each once, and none found a higher counter.
+    /// Closes the counter with all its seats, and answers the number at which it stands. Together
+    /// the seats have drawn the numbers from the start on that are below it, each once, and none
+    /// found a higher counter.
     pub fn close(self, seats: Vec<LeafSeat>) -> u64
         requires seats { (length seats.items ≡ self.seats) × All (IsSeatOf self) seats.items }
-        ensures once { (x : ℕ) → sum_by (λ s. times x s.drawn) seats.items ≡ once_from self.start x result }
+        ensures once { HaveDrawnOnce seats.items self.start result }
         ensures count { self.start + sum_by (λ s. length s.drawn) seats.items ≡ result }
         ensures found { All (λ s. s.found ≤ result) seats.items }
     {

@@ -1,6 +1,8 @@
 //! Numbers that threads draw from one counter, each number once.
 //!
-//! A `LeafSeat` stands for one who draws. Contracts see the numbers that it has drawn and the counter that it last found. Whoever closes the counter with all its seats knows that together they drew each number once, and none was left out.
+//! A `LeafSeat` stands for one who draws. Contracts see the numbers that it has drawn and the
+//! counter that it last found. Whoever closes the counter with all its seats knows that together
+//! they drew each number once, and none was left out.
 #![tactic(auto)]
 
 mod leaf_seat;

@@ -1,12 +1,12 @@
-//! Runs commands over a folder, a vault's disk and a sink in memory, and lets one call of theirs fail.
-//! It is a table in the crate's `stdin` and `stdout`, since a row there costs no proof:
+//! Runs commands over a folder, a vault's disk and a sink in memory, and lets one call of theirs
+//! fail. It is a table in the crate's `stdin` and `stdout`, since a row there costs no proof:
 //!
 //!     FOLDER DISK SINK WORDS
 //!
-//! The first three are the numbers of the calls that fail, from 0, or `-` where none does; then come the
-//! command's words. The folder has four files, which its calls 0 to 3 wrote (`INPUTS`). The answer is
-//! the status, the files that were written, and behind a colon what was printed. A line that begins
-//! with `#` is printed as it is.
+//! The first three are the numbers of the calls that fail, from 0, or `-` where none does; then
+//! come the command's words. The folder has four files, which its calls 0 to 3 wrote (`INPUTS`).
+//! The answer is the status, the files that were written, and behind a colon what was printed. A
+//! line that begins with `#` is printed as it is.
 #![tactic(auto)]
 
 mod outcome;
